@@ -1,0 +1,10 @@
+pub mod Integer
+pub mod Magnitude
+pub mod Floor
+pub mod Order
+pub mod Machine
+pub mod Nearness
+pub mod Quotient
+pub mod Nearest
+pub mod Value
+pub mod Table

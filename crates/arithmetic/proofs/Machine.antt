@@ -1,0 +1,31 @@
+-- Integers in 64-bit words: what fits, and what is read back. Assumes nothing.
+use mathlib.Core.Path.{_≡_, ap, _∙_}
+use Prim.Native.Nat.{ℕ, _<_, _≤_}
+use native.Mathlib.Omega.{arith}
+use lib.Dec.{T, ltb, ltb→lt}
+use lib.IntN.{ℤ, pos, negsuc, natAbs}
+use lib.Signed.{mag, mag-shr}
+use mir.Syntax.{w64}
+use mir.Val.{SFits, toZ, ofZ}
+use mir.ValLaws.{sfits-le, toZ-ofZ, toZ-pos}
+use Rattle.arithmetic.specs.Floor.{_÷_}
+use Rattle.arithmetic.specs.Magnitude.{Magnitude}
+
+mag-natAbs : (z : ℤ) → mag z ≤ natAbs z
+mag-natAbs (pos n) = omega arith
+mag-natAbs (negsuc n) = omega arith
+
+-- a magnitude below 2^63, by computing
+pub fits64 : {z : ℤ} {n : ℕ} → Magnitude z n → T (ltb n 9223372036854775808) → SFits w64 z
+fits64 {z} {n} a t = record { sfits = omega (arith, mag-natAbs z, a .bound, ltb→lt n 9223372036854775808 t) }
+
+pub fits64-floor : {z : ℤ} (m : ℕ) → SFits w64 z → SFits w64 (z ÷ m)
+fits64-floor {z} m f = sfits-le (mag-shr z m) f
+
+-- a word that is known to hold y, read back
+pub read-back : {z y : ℤ} → z ≡ y → SFits w64 y → toZ w64 (ofZ w64 z) ≡ y
+read-back {z} {y} e f = ap (λ (x : ℤ). toZ w64 (ofZ w64 x)) e ∙ toZ-ofZ w64 y f
+
+-- a natural number below 2^63 is its own word
+pub word-pos : {n : ℕ} → n < 9223372036854775808 → toZ w64 n ≡ pos n
+word-pos {n} h = toZ-pos w64 n h

@@ -1,0 +1,4 @@
+pub mod Floor
+pub mod Fraction
+pub mod Magnitude
+pub mod Nearness

@@ -1,0 +1,6 @@
+pub mod Series
+pub mod Tables
+pub mod Quarters
+pub mod Sine
+pub mod ExactSine
+pub mod Bounds
