@@ -1,15 +1,17 @@
 -- Integers in 64-bit words: what fits, and what is read back. Assumes nothing.
-use mathlib.Core.Path.{_≡_, ap, _∙_}
-use Prim.Native.Nat.{ℕ, _<_, _≤_}
+use mathlib.Core.Path.{_≡_, refl, ap, _∙_}
+use Prim.Native.Nat.{ℕ, suc, _+_, _<_, _≤_}
 use native.Mathlib.Omega.{arith}
 use lib.Dec.{T, ltb, ltb→lt}
-use lib.IntN.{ℤ, pos, negsuc, natAbs}
-use lib.Signed.{mag, mag-shr}
+use lib.IntN.{ℤ, pos, negsuc, natAbs, _-ℤ_}
+use lib.Signed.{mag, mag-shr, _<ℤ_}
 use mir.Syntax.{w64}
 use mir.Val.{SFits, toZ, ofZ}
 use mir.ValLaws.{sfits-le, toZ-ofZ, toZ-pos}
 use Rattle.arithmetic.specs.Floor.{_÷_}
 use Rattle.arithmetic.specs.Magnitude.{Magnitude}
+use Rattle.arithmetic.proofs.Integer.{difference-of-naturals}
+use Rattle.arithmetic.proofs.Order.{not-negative}
 
 mag-natAbs : (z : ℤ) → mag z ≤ natAbs z
 mag-natAbs (pos n) = omega arith
@@ -29,3 +31,13 @@ read-back {z} {y} e f = ap (λ (x : ℤ). toZ w64 (ofZ w64 x)) e ∙ toZ-ofZ w64
 -- a natural number below 2^63 is its own word
 pub word-pos : {n : ℕ} → n < 9223372036854775808 → toZ w64 n ≡ pos n
 word-pos {n} h = toZ-pos w64 n h
+
+-- ---- -1 - z, by which the code takes a negative number apart without leaving the range
+
+pub from-minus-one : (z : ℤ) → z <ℤ pos 0 → negsuc 0 -ℤ z ≡ pos (mag z)
+from-minus-one (pos n) h = absurd (not-negative h)
+from-minus-one (negsuc n) h = difference-of-naturals (suc n) 1 (omega arith) ∙ ap pos (omega arith)
+
+pub negative-is : (z : ℤ) → z <ℤ pos 0 → z ≡ negsuc (mag z)
+negative-is (pos n) h = absurd (not-negative h)
+negative-is (negsuc n) h = refl

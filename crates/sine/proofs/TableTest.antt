@@ -11,13 +11,13 @@ use Rattle.arithmetic.specs.Nearness.{gap, error, nearest}
 use Rattle.arithmetic.proofs.Nearest.{nearest-only}
 use Rattle.arithmetic.proofs.Table.{both, both-left, both-right, all-from, at-each}
 use Rattle.arithmetic.proofs.Value.{same-value-half}
-use Rattle.sine.specs.Series.{arc, arcUnit, factorial, term, alternating}
+use Rattle.sine.specs.Series.{arc, arcUnit, factorial, term, alternating, laterTerms}
 use Rattle.sine.specs.Tables.{Q, Tabulates}
 use Rattle.sine.proofs.NestedSeries.{ratio, nested, nested-series, alternating-positive}
 
 -- the series of the angle t whose first power is n, nested
 unfoldable pub quick : ℕ → ℕ → Fraction
-quick t n = term t n ⊗ nested t 10 n
+quick t n = term t n ⊗ nested t laterTerms n
 
 -- x is less than one half from Q times a / d
 unfoldable pub halfNear : ℤ → ℤ → ℕ → Bool
@@ -30,16 +30,16 @@ rounds t n x =
     let f : Fraction = quick t n in
     halfNear x (f .num) (f .den)
 
-rounds-half : (t n : ℕ) (x : ℤ) → T (rounds t n x) → 2 * natAbs (error Q x (alternating t 10 n)) < alternating t 10 n .den
+rounds-half : (t n : ℕ) (x : ℤ) → T (rounds t n x) → 2 * natAbs (error Q x (alternating t laterTerms n)) < alternating t laterTerms n .den
 unfolding rounds halfNear quick
 rounds-half t n x p =
-    same-value-half Q x (alternating-positive t 10 n) (nested-series t 10 n) (ltb→lt _ _ p)
+    same-value-half Q x (alternating-positive t laterTerms n) (nested-series t laterTerms n) (ltb→lt _ _ p)
 
-pub rounds-nearest : (t n : ℕ) (x : ℤ) → T (rounds t n x) → nearest Q (alternating t 10 n) ≡ x
-rounds-nearest t n x p = nearest-only Q (alternating t 10 n) x (rounds-half t n x p)
+pub rounds-nearest : (t n : ℕ) (x : ℤ) → T (rounds t n x) → nearest Q (alternating t laterTerms n) ≡ x
+rounds-nearest t n x p = nearest-only Q (alternating t laterTerms n) x (rounds-half t n x p)
 
 -- the same of every entry of the code's table xs, whose k-th is for the angle that the first argument gives
-pub tabulates : (angle : ℕ → ℕ) (n count : ℕ) (xs : List ℕ) → T (all-from (λ k. rounds (angle k) n (pos (getD xs k 0))) 0 count) → Tabulates (λ k. nearest Q (alternating (angle k) 10 n)) count xs
+pub tabulates : (angle : ℕ → ℕ) (n count : ℕ) (xs : List ℕ) → T (all-from (λ k. rounds (angle k) n (pos (getD xs k 0))) 0 count) → Tabulates (λ k. nearest Q (alternating (angle k) laterTerms n)) count xs
 tabulates angle n count xs p = record {
   at = λ k h. sym (rounds-nearest (angle k) n (pos (getD xs k 0)) (at-each (λ k. rounds (angle k) n (pos (getD xs k 0))) count p k h));
 }
@@ -76,16 +76,16 @@ unfolding between
 between-natural least most (pos x) p = (refl, leb→le least x (both-left (leb least x) (leb x most) p), leb→le x most (both-right (leb least x) (leb x most) p))
 between-natural least most (negsuc x) p = absurd p
 
-pub entry-known : (least most t n : ℕ) → T (entry least most t n) → Entry least most (alternating t 10 n) (nearest Q (alternating t 10 n))
+pub entry-known : (least most t n : ℕ) → T (entry least most t n) → Entry least most (alternating t laterTerms n) (nearest Q (alternating t laterTerms n))
 unfolding entry entryAt entryTest rounds
 entry-known least most t n p =
     let x : ℤ = nearest Q (quick t n) in
     let range = between-natural least most x (both-left (between least most x) (rounds t n x) p) in
     let r : T (rounds t n x) = both-right (between least most x) (rounds t n x) p in
-    subst (Entry least most (alternating t 10 n)) (sym (rounds-nearest t n x r)) (record {
+    subst (Entry least most (alternating t laterTerms n)) (sym (rounds-nearest t n x r)) (record {
       natural = range .0;
       lower = range .1;
       upper = range .2;
-      positive = alternating-positive t 10 n;
+      positive = alternating-positive t laterTerms n;
       half = rounds-half t n x r;
     })

@@ -24,10 +24,14 @@ unfoldable pub alternating : ℕ → ℕ → ℕ → Fraction
 alternating t zero n = term t n
 alternating t (suc k) n = term t n ⊖ alternating t k (n + 2)
 
+-- the terms of each series after its first
+abbrev pub laterTerms : ℕ
+laterTerms = 10
+
 -- x - x^3/3! + .. + x^21/21!
 unfoldable pub sineSeries : ℕ → Fraction
-sineSeries t = alternating t 10 1
+sineSeries t = alternating t laterTerms 1
 
 -- 1 - x^2/2! + .. + x^20/20!
 unfoldable pub cosineSeries : ℕ → Fraction
-cosineSeries t = alternating t 10 0
+cosineSeries t = alternating t laterTerms 0
