@@ -19,11 +19,11 @@ unfolding gap
 negative-gap s D m d = simp differences (same-difference _ _ _ _ (omega arith))
 
 -- where D is at least L and the error F, s times the fraction is at least L
-pub divisor-positive : (s D L F d : ℕ) (m : ℤ) → natAbs (gap s (pos D) m d) * 100 ≤ F * d → L + F ≤ D → 0 < L → 0 < d → (m ≡ pos (natAbs m)) × (L * d ≤ s * natAbs m)
+pub divisor-fraction-positive : (s D L F d : ℕ) (m : ℤ) → natAbs (gap s (pos D) m d) * 100 ≤ F * d → L + F ≤ D → 0 < L → 0 < d → (m ≡ pos (natAbs m)) × (L * d ≤ s * natAbs m)
 unfolding gap
-divisor-positive s D L F d (pos m) h l p q =
+divisor-fraction-positive s D L F d (pos m) h l p q =
     (refl, omega (arith, ap natAbs (number-gap s (pos D) (pos m) d), natAbs-sum (pos s *ℤ pos m) (gap s (pos D) (pos m) d), mul-le-mul-right d l))
-divisor-positive s D L F d (negsuc m) h l p q =
+divisor-fraction-positive s D L F d (negsuc m) h l p q =
     absurd (omega (arith, ap natAbs (negative-gap s D m d), mul-le-mul-right d l, positive-product p q))
 
 positive-factor : (s L d m : ℕ) → 0 < L → 0 < d → L * d ≤ s * m → 0 < m
@@ -88,7 +88,7 @@ near-quotient {s} {E} {F} {M} {N} {a} {f} {g} L D hs hl hd h k =
     let d = g .den in
     let m = natAbs (g .num) in
     let z = a ÷ D in
-    let divisor : (g .num ≡ pos m) × (L * d ≤ s * m) = divisor-positive s D L F d (g .num) (k .close) hd hl (k .positive) in
+    let divisor : (g .num ≡ pos m) × (L * d ≤ s * m) = divisor-fraction-positive s D L F d (g .num) (k .close) hd hl (k .positive) in
     let limit : L * (natAbs n * d) ≤ M * (c * m) = quotient-limit s L (natAbs n) d M c m hs (h .size) (divisor .1) in
     let after = gap 1 z (n *ℤ pos d) (c * m) in
     let above = error s a f in

@@ -1,0 +1,71 @@
+-- The eight numbers and K of an accepted gate are sound. Assumes nothing.
+use mathlib.Core.Path.{_≡_, refl, subst, sym}
+use Prim.Native.Nat.{ℕ, _≤_}
+use lib.Dec.{lit<, lit≤}
+use lib.IntN.{ℤ, pos}
+use lib.Signed.{_≤ℤ_}
+use Rattle.arithmetic.specs.Magnitude.{Magnitude}
+use Rattle.arithmetic.specs.Nearness.{Near, gap}
+use Rattle.arithmetic.proofs.Nearness.{near-number, near-weaken}
+use Rattle.sine.specs.Bounds.{leastLatitudeSine}
+use Rattle.sine.specs.Sine.{sineOf}
+use Rattle.sine.proofs.SineBounds.{sine-magnitude, cosine-magnitude, sine-of-latitude}
+use Rattle.placement.specs.declared.grid.Sphere.{Sphere}
+use Rattle.placement.specs.declared.grid.Grid.{Grid}
+use Rattle.placement.specs.declared.grid.Grid.the-variants.{Radolan, Hrap}
+use Rattle.placement.specs.declared.position.Site.{Site}
+use Rattle.placement.specs.Arc.{arcTerms}
+use Rattle.placement.specs.Position.{siteTerms, rayTerms}
+use Rattle.placement.specs.Sphere.{exactK, radolanSphere, hrapSphere, sphereOf}
+use Rattle.placement.specs.Terms.{Sound, kLimit}
+use Rattle.placement.proofs.ArcBounds.{sd-limit, cd-limit, cd-least}
+
+-- what is known of both spheres
+pub record GoodSphere (sphere : Sphere) : Type 0 where
+  pub radius-least : 637004000 ≤ sphere .radius
+  pub radius-most : sphere .radius ≤ 637120000
+  pub meridian-limit : Magnitude (sphere .meridian) 1050000
+  pub k-limit : Magnitude (sphere .k) kLimit
+  pub k-near : Near 1 50 1188882155 (sphere .k) (exactK (sphere .radius))
+
+pub good-sphere : (grid : Grid) → GoodSphere (sphereOf grid)
+unfolding sphereOf radolanSphere hrapSphere exactK gap
+good-sphere (Radolan g) = record {
+  radius-least = lit≤ tt;
+  radius-most = lit≤ tt;
+  meridian-limit = record { bound = lit≤ tt };
+  k-limit = record { bound = lit≤ tt };
+  k-near = near-weaken 50 1188882155 (near-number {s = 1} {E = 50} {B = 1188665646} (lit< tt) (lit≤ tt) (record { bound = lit≤ tt })) (lit≤ tt) (lit≤ tt);
+}
+good-sphere (Hrap g) = record {
+  radius-least = lit≤ tt;
+  radius-most = lit≤ tt;
+  meridian-limit = record { bound = lit≤ tt };
+  k-limit = record { bound = lit≤ tt };
+  k-near = near-number {s = 1} {E = 50} {B = 1188882105} (lit< tt) (lit≤ tt) (record { bound = lit≤ tt });
+}
+
+-- what is known of an accepted site, azimuth and range
+pub record GoodGate (site : Site) (azimuth range : ℕ) : Type 0 where
+  pub latitude : ℕ
+  pub latitude-is : site .latitude ≡ pos latitude
+  pub latitude-least : 200000 ≤ latitude
+  pub latitude-most : latitude ≤ 750000
+  pub longitude-limit : Magnitude (site .longitude) 1800000
+  pub range-most : range ≤ 46000000
+
+pub sound : (sphere : Sphere) (site : Site) (azimuth range : ℕ) → GoodSphere sphere → GoodGate site azimuth range → Sound (siteTerms (sphere .meridian) site) (rayTerms azimuth) (arcTerms (sphere .radius) range) (sphere .k)
+unfolding siteTerms rayTerms arcTerms
+sound sphere site azimuth range H G = record {
+  sp-limit = sine-magnitude _;
+  sp-least = subst (λ (z : ℤ). pos leastLatitudeSine ≤ℤ sineOf z) (sym (G .latitude-is)) (sine-of-latitude (G .latitude) (G .latitude-least) (G .latitude-most));
+  cp-limit = cosine-magnitude _;
+  sl-limit = sine-magnitude _;
+  cl-limit = cosine-magnitude _;
+  sa-limit = sine-magnitude _;
+  ca-limit = cosine-magnitude _;
+  sd-limit = sd-limit (sphere .radius) range (H .radius-least) (G .range-most);
+  cd-limit = cd-limit (sphere .radius) range (H .radius-least) (G .range-most);
+  cd-least = cd-least (sphere .radius) range (H .radius-least) (G .range-most);
+  k-limit = H .k-limit;
+}

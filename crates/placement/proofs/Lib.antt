@@ -1,0 +1,6 @@
+pub mod Accepted
+pub mod ArcBounds
+pub mod ArcNear
+pub mod PositionBounds
+pub mod GateTerms
+pub mod PositionNear

@@ -1,0 +1,72 @@
+-- Bounds of the numbers of a position, from those of its eight terms: every product fits 64 bits, and the divisor is positive.
+-- Assumes nothing.
+use mathlib.Core.Path.{_≡_, refl, sym, _∙_, ap}
+use Prim.Native.Nat.{ℕ, _+_, _*_, _<_, _≤_}
+use native.Mathlib.Nat.{le-refl}
+use native.Mathlib.Omega.{arith}
+use lib.Dec.{lit<, lit≤}
+use lib.IntN.{ℤ, pos, negℤ, natAbs, _+ℤ_, _*ℤ_}
+use lib.Signed.{_≤ℤ_}
+use Rattle.arithmetic.specs.Magnitude.{Magnitude}
+use Rattle.arithmetic.proofs.Magnitude.{magnitude-sum, magnitude-difference, magnitude-product, magnitude-floor, natAbs-sum}
+use Rattle.arithmetic.proofs.Order.{at-least, at-least-sum, at-least-less, at-least-product, at-least-floor, pos-≤ℤ}
+use Rattle.sine.specs.Bounds.{sineLimit, leastLatitudeSine}
+use Rattle.sine.specs.Tables.{Q}
+use Rattle.placement.specs.declared.arc.ArcTerms.{ArcTerms}
+use Rattle.placement.specs.declared.position.RayTerms.{RayTerms}
+use Rattle.placement.specs.declared.position.SiteTerms.{SiteTerms}
+use Rattle.placement.specs.Position.{w, e, n, m, u, v, divisor, X, Y}
+use Rattle.placement.specs.Terms.{Sound, arcSineLimit, arcCosineLimit, leastArcCosine, kLimit}
+
+-- the least divisor: Q, and what n is at least
+abbrev pub leastDivisor : ℕ
+leastDivisor = 1359800000
+
+module _ (s : SiteTerms) (a : RayTerms) (c : ArcTerms) (k : ℤ) (h : Sound s a c k) where
+  pub w-limit : Magnitude (w s a c) 77741300
+  unfolding w
+  w-limit = magnitude-floor 77741300 Q (lit< tt) (lit≤ tt) (magnitude-product (h .sd-limit) (h .ca-limit))
+
+  pub e-limit : Magnitude (e s a c) 77741300
+  unfolding e
+  e-limit = magnitude-floor 77741300 Q (lit< tt) (lit≤ tt) (magnitude-product (h .sd-limit) (h .sa-limit))
+
+  pub n-limit : Magnitude (n s a c) 1156297000
+  unfolding n
+  n-limit =
+      magnitude-floor 1156297000 Q (lit< tt) (lit≤ tt)
+      (magnitude-sum (magnitude-product (h .sp-limit) (h .cd-limit)) (magnitude-product (h .cp-limit) w-limit))
+
+  pub m-limit : Magnitude (m s a c) 1156297000
+  unfolding m
+  m-limit =
+      magnitude-floor 1156297000 Q (lit< tt) (lit≤ tt)
+      (magnitude-difference (magnitude-product (h .cp-limit) (h .cd-limit)) (magnitude-product (h .sp-limit) w-limit))
+
+  pub u-limit : Magnitude (u s a c) 1236191000
+  unfolding u
+  u-limit =
+      magnitude-floor 1236191000 Q (lit< tt) (lit≤ tt)
+      (magnitude-sum (magnitude-product e-limit (h .cl-limit)) (magnitude-product m-limit (h .sl-limit)))
+
+  pub v-limit : Magnitude (v s a c) 1236191000
+  unfolding v
+  v-limit =
+      magnitude-floor 1236191000 Q (lit< tt) (lit≤ tt)
+      (magnitude-difference (magnitude-product m-limit (h .cl-limit)) (magnitude-product e-limit (h .sl-limit)))
+
+  -- ---- the divisor
+
+  pub n-least : pos 286058176 ≤ℤ n s a c
+  unfolding n
+  n-least =
+      at-least-floor 286058176 Q (s .sp *ℤ c .cd +ℤ s .cp *ℤ w s a c) (lit< tt)
+      (at-least-less (at-least-product (h .sp-least) (h .cd-least)) (magnitude-product (h .cp-limit) w-limit) (lit≤ tt))
+
+  pub divisor-positive : (pos Q +ℤ n s a c ≡ pos (divisor s a c)) × (leastDivisor ≤ divisor s a c)
+  unfolding divisor
+  divisor-positive = at-least leastDivisor (pos Q +ℤ n s a c) (at-least-sum (pos-≤ℤ (le-refl Q)) n-least)
+
+  pub divisor-most : divisor s a c ≤ 2230038824
+  unfolding divisor
+  divisor-most = omega (arith, natAbs-sum (pos Q) (n s a c), n-limit .bound)

@@ -1,0 +1,12 @@
+-- `placement::refusal::azimuth_accepted` meets its contract. Assumes nothing.
+use mathlib.Core.Path.{refl}
+use Rattle.placement.specs.Refusal.{azimuthAccepted}
+use Rattle.placement.proofs.refusal.azimuth_accepted.Statement.{statement}
+use Rattle.placement.proofs.refusal.azimuth_accepted.Tie as tie
+
+returns : tie.Need-returns
+unfolding azimuthAccepted
+returns c = refl
+
+pub azimuth-accepted-spec : {M : Type 1} → statement M
+azimuth-accepted-spec = tie.close (tie.spec returns)

@@ -1,0 +1,10 @@
+pub mod Sphere
+pub mod Arc
+pub mod Position
+pub mod ExactArc
+pub mod ExactPosition
+pub mod Terms
+pub mod Window
+pub mod Refusal
+pub mod Gate
+pub mod Nearness

@@ -1,0 +1,48 @@
+-- What the position asks of the eight numbers and of K, so that no product leaves 64 bits and the divisor is positive. Every
+-- accepted site, ray and range meets it. Assumes nothing.
+use Prim.Native.Nat.{ℕ, _<_, _≤_}
+use lib.IntN.{ℤ, pos}
+use lib.Signed.{_≤ℤ_}
+use Rattle.arithmetic.specs.Magnitude.{Magnitude}
+use Rattle.sine.specs.Bounds.{sineLimit, leastLatitudeSine}
+use Rattle.placement.specs.declared.arc.ArcTerms.{ArcTerms}
+use Rattle.placement.specs.declared.grid.Window.{Window}
+use Rattle.placement.specs.declared.position.Position.{Position}
+use Rattle.placement.specs.declared.position.RayTerms.{RayTerms}
+use Rattle.placement.specs.declared.position.SiteTerms.{SiteTerms}
+
+-- the largest sine of an arc, and the least and the largest cosine, times Q
+abbrev pub arcSineLimit : ℕ
+arcSineLimit = 77605900
+
+abbrev pub leastArcCosine : ℕ
+leastArcCosine = 1070900000
+
+abbrev pub arcCosineLimit : ℕ
+arcCosineLimit = 1076542939
+
+abbrev pub kLimit : ℕ
+kLimit = 1188882105
+
+pub record Sound (s : SiteTerms) (a : RayTerms) (c : ArcTerms) (k : ℤ) : Type 0 where
+  pub sp-limit : Magnitude (s .sp) sineLimit
+  pub sp-least : pos leastLatitudeSine ≤ℤ s .sp
+  pub cp-limit : Magnitude (s .cp) sineLimit
+  pub sl-limit : Magnitude (s .sl) sineLimit
+  pub cl-limit : Magnitude (s .cl) sineLimit
+  pub sa-limit : Magnitude (a .sa) sineLimit
+  pub ca-limit : Magnitude (a .ca) sineLimit
+  pub sd-limit : Magnitude (c .sd) arcSineLimit
+  pub cd-limit : Magnitude (c .cd) arcCosineLimit
+  pub cd-least : pos leastArcCosine ≤ℤ c .cd
+  pub k-limit : Magnitude k kLimit
+
+-- what the cell asks of window and position
+pub record Reachable (window : Window) (at : Position) : Type 0 where
+  pub side-positive : 0 < window .side
+  pub columns-most : window .columns ≤ 1500
+  pub rows-most : window .rows ≤ 1500
+  pub corner-x : Magnitude (window .x) 10000000000
+  pub corner-y : Magnitude (window .y) 10000000000
+  pub x-limit : Magnitude (at .x) 10000000000
+  pub y-limit : Magnitude (at .y) 10000000000

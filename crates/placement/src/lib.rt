@@ -1,0 +1,14 @@
+// A gate to its position and its cell: document 01, sections "Projection" and, for the cell, "Ledger and cells".
+mod arc;
+mod floor;
+mod gate;
+mod grid;
+mod position;
+mod refusal;
+
+pub use gate::Placement;
+pub use gate::place;
+pub use grid::Grid;
+pub use grid::HrapGrid;
+pub use grid::RadolanGrid;
+pub use position::Site;
