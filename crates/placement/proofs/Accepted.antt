@@ -17,7 +17,7 @@ use Rattle.placement.specs.Refusal.{inRange, inSignedRange, rangeAccepte
 -- ---- one test
 
 -- both of two tests pass
-and-true : (a b : Bool) → (a && b) ≡ true → (a ≡ true) × (b ≡ true)
+pub and-true : (a b : Bool) → (a && b) ≡ true → (a ≡ true) × (b ≡ true)
 and-true true b e = (refl, e)
 and-true false b e = (e, cc)
 

@@ -1,5 +1,6 @@
 -- The eight numbers and K of an accepted gate are sound. Assumes nothing.
 use mathlib.Core.Path.{_≡_, refl, subst, sym}
+use mathlib.Core.Bool.{true}
 use Prim.Native.Nat.{ℕ, _≤_}
 use lib.Dec.{lit<, lit≤}
 use lib.IntN.{ℤ, pos}
@@ -16,8 +17,10 @@ use Rattle.placement.specs.declared.grid.Grid.the-variants.{Radolan, Hra
 use Rattle.placement.specs.declared.position.Site.{Site}
 use Rattle.placement.specs.Arc.{arcTerms}
 use Rattle.placement.specs.Position.{siteTerms, rayTerms}
+use Rattle.placement.specs.Refusal.{rangeAccepted, siteAccepted}
 use Rattle.placement.specs.Sphere.{exactK, radolanSphere, hrapSphere, sphereOf}
 use Rattle.placement.specs.Terms.{Sound, kLimit}
+use Rattle.placement.proofs.Accepted.{accepted-range, accepted-site}
 use Rattle.placement.proofs.ArcBounds.{sd-limit, cd-limit, cd-least}
 
 -- what is known of both spheres
@@ -69,3 +72,15 @@ sound sphere site azimuth range H G = record {
   cd-least = cd-least (sphere .radius) range (H .radius-least) (G .range-most);
   k-limit = H .k-limit;
 }
+
+pub good-gate : (site : Site) (azimuth range : ℕ) → rangeAccepted range ≡ true → siteAccepted site ≡ true → GoodGate site azimuth range
+good-gate site azimuth range r s =
+    let known = accepted-site site s in
+    record {
+      latitude = known .latitude .0;
+      latitude-is = known .latitude .1;
+      latitude-least = known .latitude .2;
+      latitude-most = known .latitude .3;
+      longitude-limit = known .longitude;
+      range-most = accepted-range range r;
+    }

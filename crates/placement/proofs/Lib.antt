@@ -1,6 +1,8 @@
 pub mod Accepted
+pub mod Cells
 pub mod ArcBounds
 pub mod ArcNear
 pub mod PositionBounds
 pub mod GateTerms
 pub mod PositionNear
+pub mod GateNear

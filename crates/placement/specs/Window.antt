@@ -22,20 +22,28 @@ windowOf (Hrap g) = record {
   rows = g .rows;
 }
 
-module _ (window : Window) (at : Position) where
-  -- column = floor((X - corner x) / side), row likewise; rows count northward
-  unfoldable pub column : ℤ
-  column = (at .x -ℤ window .x) ÷ window .side
+-- floor((X - corner x) / side), and the same for Y
+unfoldable pub indexOf : ℤ → ℕ → ℤ → ℤ
+indexOf corner side x = (x -ℤ corner) ÷ side
 
+-- from 0 to count - 1
+unfoldable pub inSpan : ℕ → ℤ → Bool
+inSpan count index = leZ (pos 0) index && ltZ index (pos count)
+
+-- row x columns + column
+unfoldable pub cellNumber : ℕ → ℤ → ℤ → ℕ
+cellNumber columns row column = natAbs row * columns + natAbs column
+
+module _ (window : Window) (at : Position) where
+  unfoldable pub column : ℤ
+  column = indexOf (window .x) (window .side) (at .x)
+
+  -- rows count northward
   unfoldable pub row : ℤ
-  row = (at .y -ℤ window .y) ÷ window .side
+  row = indexOf (window .y) (window .side) (at .y)
 
   unfoldable pub inWindow : Bool
-  inWindow = leZ (pos 0) column && ltZ column (pos (window .columns)) && leZ (pos 0) row && ltZ row (pos (window .rows))
-
-  -- the cell's number is row x columns + column
-  unfoldable pub cell : ℕ
-  cell = natAbs row * window .columns + natAbs column
+  inWindow = inSpan (window .columns) column && inSpan (window .rows) row
 
   unfoldable pub located : Placement
-  located = cond inWindow (Inside cell (at .x) (at .y)) (Outside (at .x) (at .y))
+  located = cond inWindow (Inside (cellNumber (window .columns) row column) (at .x) (at .y)) (Outside (at .x) (at .y))

@@ -1,8 +1,10 @@
 // The placement of one gate.
 use crate::arc::arc_terms;
-use crate::floor::floor_div;
 use crate::grid::Grid;
 use crate::grid::Window;
+use crate::grid::cell_number;
+use crate::grid::in_span;
+use crate::grid::index_of;
 use crate::grid::sphere_of;
 use crate::grid::window_of;
 use crate::position::Position;
@@ -15,9 +17,13 @@ use crate::refusal::grid_accepted;
 use crate::refusal::range_accepted;
 use crate::refusal::site_accepted;
 ghost use mathlib.Core.Path.{_≡_};
+ghost use mathlib.Core.Bool.{true};
 ghost use Rattle.placement.specs.Gate.{placementOf};
 ghost use Rattle.placement.specs.Nearness.{PositionWithin};
-ghost use Rattle.placement.specs.Window.{located};
+ghost use Rattle.placement.specs.Position.{positionOf};
+ghost use Rattle.placement.specs.Refusal.{rangeAccepted, siteAccepted, gridAccepted};
+ghost use Rattle.placement.specs.Sphere.{sphereOf};
+ghost use Rattle.placement.specs.Window.{windowOf, located};
 ghost use Rattle.placement.specs.Terms.{Reachable};
 
 // Where a gate lies: inside the grid in a cell, outside the grid, or refused with a number.
@@ -45,6 +51,14 @@ pub fn place(site: Site, grid: Grid, azimuth: u32, range: u32) -> Placement
     if !azimuth_accepted(azimuth) {
         return Placement::Refused(7);
     }
+    accepted_place(site, grid, azimuth, range)
+}
+
+// The placement of a gate whose numbers are accepted.
+fn accepted_place(site: Site, grid: Grid, azimuth: u32, range: u32) -> Placement
+    requires { ⌜ (rangeAccepted range ≡ true) × (siteAccepted site ≡ true) × (gridAccepted grid ≡ true) ⌝ }
+    ensures { λ r. ⌜ r ≡ located (windowOf grid) (positionOf (sphereOf grid) site azimuth range) ⌝ }
+{
     let sphere = sphere_of(grid);
     let s = site_terms(sphere.meridian, site);
     let a = ray_terms(azimuth);
@@ -59,23 +73,17 @@ fn cell_at(window: Window, at: Position) -> Placement
 {
     let x = at.x;
     let y = at.y;
-    let columns = window.columns as i64;
-    let column = floor_div(x - window.x, window.side);
-    let row = floor_div(y - window.y, window.side);
-    if column < 0 {
+    let columns = window.columns;
+    let column = index_of(window.x, window.side, x);
+    let row = index_of(window.y, window.side, y);
+    if !in_span(columns, column) {
         return Placement::Outside { x, y };
     }
-    if columns <= column {
-        return Placement::Outside { x, y };
-    }
-    if row < 0 {
-        return Placement::Outside { x, y };
-    }
-    if window.rows as i64 <= row {
+    if !in_span(window.rows, row) {
         return Placement::Outside { x, y };
     }
     Placement::Inside {
-        cell: (row * columns + column) as u32,
+        cell: cell_number(columns, row, column),
         x,
         y,
     }

@@ -1,8 +1,11 @@
 // The grid: its two kinds, the numbers that are accepted, its sphere, and the cells that it spans.
+use crate::floor::floor_div;
 ghost use mathlib.Core.Path.{_≡_};
 ghost use mathlib.Core.Bool.{true};
+ghost use Prim.Native.Nat.{_<_, _≤_};
+ghost use Rattle.arithmetic.specs.Magnitude.{Magnitude};
 ghost use Rattle.placement.specs.Sphere.{sphereOf};
-ghost use Rattle.placement.specs.Window.{windowOf};
+ghost use Rattle.placement.specs.Window.{windowOf, indexOf, inSpan, cellNumber};
 ghost use Rattle.placement.specs.Refusal.{gridAccepted};
 
 // RADOLAN: the corner in centimetres from the pole, the side of a cell, columns and rows.
@@ -82,4 +85,30 @@ pub fn window_of(grid: Grid) -> Window
             rows: g.rows,
         },
     }
+}
+
+// The column or row of a coordinate: floor((x - corner) / side).
+pub fn index_of(corner: i64, side: u64, x: i64) -> i64
+    requires { ⌜ (0 < side) × Magnitude corner 10000000000 × Magnitude x 10000000000 ⌝ }
+    ensures { λ r. ⌜ r ≡ indexOf corner side x ⌝ }
+{
+    floor_div(x - corner, side)
+}
+
+// A column or row is one of the grid's.
+pub fn in_span(count: u32, index: i64) -> bool
+    ensures { λ r. ⌜ r ≡ inSpan count index ⌝ }
+{
+    if index < 0 {
+        return false;
+    }
+    index < count as i64
+}
+
+// row x columns + column
+pub fn cell_number(columns: u32, row: i64, column: i64) -> u32
+    requires { ⌜ (columns ≤ 1500) × (inSpan 1500 row ≡ true) × (inSpan 1500 column ≡ true) ⌝ }
+    ensures { λ r. ⌜ r ≡ cellNumber columns row column ⌝ }
+{
+    (row as u32) * columns + column as u32
 }
