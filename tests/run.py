@@ -80,10 +80,11 @@ def main():
     status, lines = run(["make", "--no-print-directory", "library"])
     count.note("the library is built from the proved archive", [] if status == 0 else lines[-SHOWN:])
     if status == 0:
+        import compare_placement
         import compare_sine
         import compare_tables
 
-        for module in (compare_tables, compare_sine):
+        for module in (compare_tables, compare_sine, compare_placement):
             compared(count, module)
     print(f"{count.passed} passed, {count.failed} failed")
     return 0 if count.failed == 0 and count.passed > 0 else 1
