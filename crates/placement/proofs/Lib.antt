@@ -1,8 +1,10 @@
 pub mod Accepted
 pub mod Cells
+pub mod SphereRule
 pub mod ArcBounds
 pub mod ArcNear
 pub mod PositionBounds
 pub mod GateTerms
 pub mod PositionNear
 pub mod GateNear
+pub mod MarkedCases

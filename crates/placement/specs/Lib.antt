@@ -8,3 +8,4 @@ pub mod Window
 pub mod Refusal
 pub mod Gate
 pub mod Nearness
+pub mod MarkedCases
