@@ -7,4 +7,6 @@ pub mod Nearness
 pub mod Quotient
 pub mod Nearest
 pub mod Value
+pub mod Test
 pub mod Table
+pub mod Places

@@ -14,12 +14,14 @@ use Rattle.sine.proofs.SineBounds.{sine-magnitude, cosine-magnitude, sine-of-la
 use Rattle.placement.specs.declared.grid.Sphere.{Sphere}
 use Rattle.placement.specs.declared.grid.Grid.{Grid}
 use Rattle.placement.specs.declared.grid.Grid.the-variants.{Radolan, Hrap}
+use Rattle.placement.specs.declared.position.RayTerms.{RayTerms}
 use Rattle.placement.specs.declared.position.Site.{Site}
+use Rattle.placement.specs.declared.position.SiteTerms.{SiteTerms}
 use Rattle.placement.specs.Arc.{arcTerms}
 use Rattle.placement.specs.Position.{siteTerms, rayTerms}
 use Rattle.placement.specs.Refusal.{rangeAccepted, siteAccepted}
 use Rattle.placement.specs.Sphere.{exactK, radolanSphere, hrapSphere, sphereOf}
-use Rattle.placement.specs.Terms.{Sound, kLimit}
+use Rattle.placement.specs.Terms.{SiteLimits, RayLimits, Sound, kLimit}
 use Rattle.placement.proofs.Accepted.{accepted-range, accepted-site}
 use Rattle.placement.proofs.ArcBounds.{sd-limit, cd-limit, cd-least}
 
@@ -57,21 +59,36 @@ pub record GoodGate (site : Site) (azimuth range : ℕ) : Type 0 where
   pub longitude-limit : Magnitude (site .longitude) 1800000
   pub range-most : range ≤ 46000000
 
-pub sound : (sphere : Sphere) (site : Site) (azimuth range : ℕ) → GoodSphere sphere → GoodGate site azimuth range → Sound (siteTerms (sphere .meridian) site) (rayTerms azimuth) (arcTerms (sphere .radius) range) (sphere .k)
-unfolding siteTerms rayTerms arcTerms
-sound sphere site azimuth range H G = record {
+pub site-limits : (meridian : ℤ) (site : Site) (latitude : ℕ) → site .latitude ≡ pos latitude → 200000 ≤ latitude → latitude ≤ 750000 → SiteLimits (siteTerms meridian site)
+unfolding siteTerms
+site-limits meridian site latitude e least most = record {
   sp-limit = sine-magnitude _;
-  sp-least = subst (λ (z : ℤ). pos leastLatitudeSine ≤ℤ sineOf z) (sym (G .latitude-is)) (sine-of-latitude (G .latitude) (G .latitude-least) (G .latitude-most));
+  sp-least = subst (λ (z : ℤ). pos leastLatitudeSine ≤ℤ sineOf z) (sym e) (sine-of-latitude latitude least most);
   cp-limit = cosine-magnitude _;
   sl-limit = sine-magnitude _;
   cl-limit = cosine-magnitude _;
-  sa-limit = sine-magnitude _;
-  ca-limit = cosine-magnitude _;
-  sd-limit = sd-limit (sphere .radius) range (H .radius-least) (G .range-most);
-  cd-limit = cd-limit (sphere .radius) range (H .radius-least) (G .range-most);
-  cd-least = cd-least (sphere .radius) range (H .radius-least) (G .range-most);
-  k-limit = H .k-limit;
 }
+
+pub ray-limits : (azimuth : ℕ) → RayLimits (rayTerms azimuth)
+unfolding rayTerms
+ray-limits azimuth = record { sa-limit = sine-magnitude _; ca-limit = cosine-magnitude _ }
+
+pub sound-of : (s : SiteTerms) (a : RayTerms) (R r : ℕ) (k : ℤ) → SiteLimits s → RayLimits a → 637004000 ≤ R → r ≤ 46000000 → Magnitude k kLimit → Sound s a (arcTerms R r) k
+unfolding arcTerms
+sound-of s a R r k site ray hR hr hk = record {
+  site = site;
+  ray = ray;
+  sd-limit = sd-limit R r hR hr;
+  cd-limit = cd-limit R r hR hr;
+  cd-least = cd-least R r hR hr;
+  k-limit = hk;
+}
+
+pub sound : (sphere : Sphere) (site : Site) (azimuth range : ℕ) → GoodSphere sphere → GoodGate site azimuth range → Sound (siteTerms (sphere .meridian) site) (rayTerms azimuth) (arcTerms (sphere .radius) range) (sphere .k)
+sound sphere site azimuth range H G =
+    sound-of _ _ (sphere .radius) range (sphere .k)
+    (site-limits (sphere .meridian) site (G .latitude) (G .latitude-is) (G .latitude-least) (G .latitude-most))
+    (ray-limits azimuth) (H .radius-least) (G .range-most) (H .k-limit)
 
 pub good-gate : (site : Site) (azimuth range : ℕ) → rangeAccepted range ≡ true → siteAccepted site ≡ true → GoodGate site azimuth range
 good-gate site azimuth range r s =

@@ -6,5 +6,7 @@ pub mod ArcNear
 pub mod PositionBounds
 pub mod GateTerms
 pub mod PositionNear
+pub mod SurveyLimits
+pub mod OtherAnswers
 pub mod GateNear
 pub mod MarkedCases

@@ -8,7 +8,7 @@ use lib.Dec.{lit<, lit≤}
 use lib.IntN.{ℤ, pos, negℤ, natAbs, _+ℤ_, _*ℤ_}
 use lib.Signed.{_≤ℤ_}
 use Rattle.arithmetic.specs.Magnitude.{Magnitude}
-use Rattle.arithmetic.proofs.Magnitude.{magnitude-sum, magnitude-difference, magnitude-product, magnitude-floor, natAbs-sum}
+use Rattle.arithmetic.proofs.Magnitude.{magnitude-sum, magnitude-difference, magnitude-product, magnitude-floor, magnitude-negation, natAbs-sum}
 use Rattle.arithmetic.proofs.Order.{at-least, at-least-sum, at-least-less, at-least-product, at-least-floor, pos-≤ℤ}
 use Rattle.sine.specs.Bounds.{sineLimit, leastLatitudeSine}
 use Rattle.sine.specs.Tables.{Q}
@@ -25,35 +25,35 @@ leastDivisor = 1359800000
 module _ (s : SiteTerms) (a : RayTerms) (c : ArcTerms) (k : ℤ) (h : Sound s a c k) where
   pub w-limit : Magnitude (w s a c) 77741300
   unfolding w
-  w-limit = magnitude-floor 77741300 Q (lit< tt) (lit≤ tt) (magnitude-product (h .sd-limit) (h .ca-limit))
+  w-limit = magnitude-floor 77741300 Q (lit< tt) (lit≤ tt) (magnitude-product (h .sd-limit) (h .ray .ca-limit))
 
   pub e-limit : Magnitude (e s a c) 77741300
   unfolding e
-  e-limit = magnitude-floor 77741300 Q (lit< tt) (lit≤ tt) (magnitude-product (h .sd-limit) (h .sa-limit))
+  e-limit = magnitude-floor 77741300 Q (lit< tt) (lit≤ tt) (magnitude-product (h .sd-limit) (h .ray .sa-limit))
 
   pub n-limit : Magnitude (n s a c) 1156297000
   unfolding n
   n-limit =
       magnitude-floor 1156297000 Q (lit< tt) (lit≤ tt)
-      (magnitude-sum (magnitude-product (h .sp-limit) (h .cd-limit)) (magnitude-product (h .cp-limit) w-limit))
+      (magnitude-sum (magnitude-product (h .site .sp-limit) (h .cd-limit)) (magnitude-product (h .site .cp-limit) w-limit))
 
   pub m-limit : Magnitude (m s a c) 1156297000
   unfolding m
   m-limit =
       magnitude-floor 1156297000 Q (lit< tt) (lit≤ tt)
-      (magnitude-difference (magnitude-product (h .cp-limit) (h .cd-limit)) (magnitude-product (h .sp-limit) w-limit))
+      (magnitude-difference (magnitude-product (h .site .cp-limit) (h .cd-limit)) (magnitude-product (h .site .sp-limit) w-limit))
 
   pub u-limit : Magnitude (u s a c) 1236191000
   unfolding u
   u-limit =
       magnitude-floor 1236191000 Q (lit< tt) (lit≤ tt)
-      (magnitude-sum (magnitude-product e-limit (h .cl-limit)) (magnitude-product m-limit (h .sl-limit)))
+      (magnitude-sum (magnitude-product e-limit (h .site .cl-limit)) (magnitude-product m-limit (h .site .sl-limit)))
 
   pub v-limit : Magnitude (v s a c) 1236191000
   unfolding v
   v-limit =
       magnitude-floor 1236191000 Q (lit< tt) (lit≤ tt)
-      (magnitude-difference (magnitude-product m-limit (h .cl-limit)) (magnitude-product e-limit (h .sl-limit)))
+      (magnitude-difference (magnitude-product m-limit (h .site .cl-limit)) (magnitude-product e-limit (h .site .sl-limit)))
 
   -- ---- the divisor
 
@@ -61,7 +61,7 @@ module _ (s : SiteTerms) (a : RayTerms) (c : ArcTerms) (k : ℤ) (h : Sound s a 
   unfolding n
   n-least =
       at-least-floor 286058176 Q (s .sp *ℤ c .cd +ℤ s .cp *ℤ w s a c) (lit< tt)
-      (at-least-less (at-least-product (h .sp-least) (h .cd-least)) (magnitude-product (h .cp-limit) w-limit) (lit≤ tt))
+      (at-least-less (at-least-product (h .site .sp-least) (h .cd-least)) (magnitude-product (h .site .cp-limit) w-limit) (lit≤ tt))
 
   pub divisor-positive : (pos Q +ℤ n s a c ≡ pos (divisor s a c)) × (leastDivisor ≤ divisor s a c)
   unfolding divisor
@@ -70,3 +70,20 @@ module _ (s : SiteTerms) (a : RayTerms) (c : ArcTerms) (k : ℤ) (h : Sound s a 
   pub divisor-most : divisor s a c ≤ 2230038824
   unfolding divisor
   divisor-most = omega (arith, natAbs-sum (pos Q) (n s a c), n-limit .bound)
+
+  -- ---- the position
+
+  some : 0 < divisor s a c
+  some = omega (arith, divisor-positive .1)
+
+  pub X-limit : Magnitude (X s a c k) 10000000000
+  unfolding X
+  X-limit =
+      magnitude-floor 10000000000 (divisor s a c) some (omega (arith, divisor-positive .1))
+      (magnitude-product (h .k-limit) u-limit)
+
+  pub Y-limit : Magnitude (Y s a c k) 10000000000
+  unfolding Y
+  Y-limit =
+      magnitude-floor 10000000000 (divisor s a c) some (omega (arith, divisor-positive .1))
+      (magnitude-product (magnitude-negation (h .k-limit)) v-limit)

@@ -10,7 +10,7 @@ use Rattle.arithmetic.specs.Fraction.{Fraction, whole, _⊕_}
 use Rattle.arithmetic.specs.Magnitude.{Magnitude}
 use Rattle.arithmetic.specs.Nearness.{Near, gap}
 use Rattle.arithmetic.proofs.Integer.{as-difference, same-difference, differences}
-use Rattle.arithmetic.proofs.Nearness.{near-whole, near-sum, near-opposite, near-product, near-floor, near-magnitude}
+use Rattle.arithmetic.proofs.Nearness.{near-whole, near-sum, near-opposite, near-product, near-floor}
 use Rattle.arithmetic.proofs.Quotient.{near-quotient, divisor-fraction-positive}
 use Rattle.sine.specs.Tables.{Q}
 use Rattle.sine.proofs.SineNear.{sine-near, cosine-near}
@@ -121,10 +121,3 @@ module _ (sphere : Sphere) (site : Site) (azimuth range : ℕ) (H : GoodSphere s
 
   pub Y-within : Within 50 (Y s a c (sphere .k)) (Y* sphere site azimuth range)
   Y-within = near-within 50 (lit≤ tt) Y-near
-
-  -- within the sharper number that the proof reaches, in whole centimetres
-  pub X-limit : Magnitude (X s a c (sphere .k)) 1080811807
-  X-limit = near-magnitude X-near
-
-  pub Y-limit : Magnitude (Y s a c (sphere .k)) 1080811807
-  Y-limit = near-magnitude Y-near

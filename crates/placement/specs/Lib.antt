@@ -7,5 +7,6 @@ pub mod Terms
 pub mod Window
 pub mod Refusal
 pub mod Gate
+pub mod Survey
 pub mod Nearness
 pub mod MarkedCases

@@ -24,25 +24,34 @@ arcCosineLimit = 1076542939
 abbrev pub kLimit : ℕ
 kLimit = 1188882105
 
-pub record Sound (s : SiteTerms) (a : RayTerms) (c : ArcTerms) (k : ℤ) : Type 0 where
+pub record SiteLimits (s : SiteTerms) : Type 0 where
   pub sp-limit : Magnitude (s .sp) sineLimit
   pub sp-least : pos leastLatitudeSine ≤ℤ s .sp
   pub cp-limit : Magnitude (s .cp) sineLimit
   pub sl-limit : Magnitude (s .sl) sineLimit
   pub cl-limit : Magnitude (s .cl) sineLimit
+
+pub record RayLimits (a : RayTerms) : Type 0 where
   pub sa-limit : Magnitude (a .sa) sineLimit
   pub ca-limit : Magnitude (a .ca) sineLimit
+
+pub record Sound (s : SiteTerms) (a : RayTerms) (c : ArcTerms) (k : ℤ) : Type 0 where
+  pub site : SiteLimits s
+  pub ray : RayLimits a
   pub sd-limit : Magnitude (c .sd) arcSineLimit
   pub cd-limit : Magnitude (c .cd) arcCosineLimit
   pub cd-least : pos leastArcCosine ≤ℤ c .cd
   pub k-limit : Magnitude k kLimit
 
 -- what the cell asks of window and position
-pub record Reachable (window : Window) (at : Position) : Type 0 where
+pub record WindowLimits (window : Window) : Type 0 where
   pub side-positive : 0 < window .side
   pub columns-most : window .columns ≤ 1500
   pub rows-most : window .rows ≤ 1500
   pub corner-x : Magnitude (window .x) 10000000000
   pub corner-y : Magnitude (window .y) 10000000000
+
+pub record Reachable (window : Window) (at : Position) : Type 0 where
+  pub limits : WindowLimits window
   pub x-limit : Magnitude (at .x) 10000000000
   pub y-limit : Magnitude (at .y) 10000000000

@@ -5,26 +5,28 @@ use crate::grid::Window;
 use crate::grid::cell_number;
 use crate::grid::in_span;
 use crate::grid::index_of;
-use crate::grid::sphere_of;
-use crate::grid::window_of;
 use crate::position::Position;
+use crate::position::RayTerms;
 use crate::position::Site;
 use crate::position::position_of;
 use crate::position::ray_terms;
-use crate::position::site_terms;
 use crate::refusal::azimuth_accepted;
 use crate::refusal::grid_accepted;
 use crate::refusal::range_accepted;
 use crate::refusal::site_accepted;
+use crate::survey::Survey;
+use crate::survey::survey_of;
 ghost use mathlib.Core.Path.{_≡_};
 ghost use mathlib.Core.Bool.{true};
+ghost use Prim.Native.Nat.{_≤_};
 ghost use Rattle.placement.specs.Gate.{placementOf};
 ghost use Rattle.placement.specs.Nearness.{PositionWithin};
 ghost use Rattle.placement.specs.Position.{positionOf};
 ghost use Rattle.placement.specs.Refusal.{rangeAccepted, siteAccepted, gridAccepted};
 ghost use Rattle.placement.specs.Sphere.{sphereOf};
+ghost use Rattle.placement.specs.Survey.{Surveyed, surveyed};
 ghost use Rattle.placement.specs.Window.{windowOf, located};
-ghost use Rattle.placement.specs.Terms.{Reachable};
+ghost use Rattle.placement.specs.Terms.{Reachable, RayLimits};
 
 // Where a gate lies: inside the grid in a cell, outside the grid, or refused with a number.
 pub enum Placement {
@@ -59,11 +61,19 @@ fn accepted_place(site: Site, grid: Grid, azimuth: u32, range: u32) -> Placement
     requires { ⌜ (rangeAccepted range ≡ true) × (siteAccepted site ≡ true) × (gridAccepted grid ≡ true) ⌝ }
     ensures { λ r. ⌜ r ≡ located (windowOf grid) (positionOf (sphereOf grid) site azimuth range) ⌝ }
 {
-    let sphere = sphere_of(grid);
-    let s = site_terms(sphere.meridian, site);
-    let a = ray_terms(azimuth);
+    gate_at(survey_of(site, grid), ray_terms(azimuth), range)
+}
+
+// The same from what site, grid and ray give once for all of a ray's gates.
+pub fn gate_at(survey: Survey, ray: RayTerms, range: u32) -> Placement
+    requires { ⌜ Surveyed survey × RayLimits ray × (range ≤ 46000000) ⌝ }
+    ensures { λ r. ⌜ r ≡ surveyed survey ray range ⌝ }
+{
+    let s = survey.terms;
+    let sphere = survey.sphere;
+    let window = survey.window;
     let c = arc_terms(sphere.radius, range);
-    cell_at(window_of(grid), position_of(s, a, c, sphere.k))
+    cell_at(window, position_of(s, ray, c, sphere.k))
 }
 
 // The cell that a position falls into: on a west or south edge, the one east or north of it.

@@ -3,12 +3,17 @@ mod arc;
 mod floor;
 mod gate;
 mod grid;
+mod ledger;
 mod position;
 mod refusal;
+mod survey;
 
 pub use gate::Placement;
 pub use gate::place;
 pub use grid::Grid;
 pub use grid::HrapGrid;
 pub use grid::RadolanGrid;
+pub use ledger::ray_ledger;
 pub use position::Site;
+pub use survey::Survey;
+pub use survey::survey_of;

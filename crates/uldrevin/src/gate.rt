@@ -36,7 +36,20 @@ pub extern "C" fn uldrevin_place_radolan(
         columns,
         rows,
     });
-    answer(placement::place(Site { latitude, longitude }, grid, azimuth, range), cell, x, y)
+    answer(
+        placement::place(
+            Site {
+                latitude,
+                longitude,
+            },
+            grid,
+            azimuth,
+            range,
+        ),
+        cell,
+        x,
+        y,
+    )
 }
 
 #[no_mangle]
@@ -58,8 +71,26 @@ pub extern "C" fn uldrevin_place_hrap(
     ensures { λ r. ⌜ now (x .exit) ≡ xAfter (now (x .entry)) (hrapPlacement latitude longitude i j columns rows azimuth range) ⌝ }
     ensures { λ r. ⌜ now (y .exit) ≡ yAfter (now (y .entry)) (hrapPlacement latitude longitude i j columns rows azimuth range) ⌝ }
 {
-    let grid = Grid::Hrap(HrapGrid { i, j, columns, rows });
-    answer(placement::place(Site { latitude, longitude }, grid, azimuth, range), cell, x, y)
+    let grid = Grid::Hrap(HrapGrid {
+        i,
+        j,
+        columns,
+        rows,
+    });
+    answer(
+        placement::place(
+            Site {
+                latitude,
+                longitude,
+            },
+            grid,
+            azimuth,
+            range,
+        ),
+        cell,
+        x,
+        y,
+    )
 }
 
 // Writes a placement through the lent numbers.

@@ -18,11 +18,11 @@ use Rattle.placement.proofs.gate.cell_at.Tie as tie
 
 column-fits : (window : Window) (at : Position) → Reachable window at → SFits w64 (column window at)
 unfolding column indexOf
-column-fits window at h = fits64-floor (window .side) (fits64 (magnitude-difference (h .x-limit) (h .corner-x)) tt)
+column-fits window at h = fits64-floor (window .side) (fits64 (magnitude-difference (h .x-limit) (h .limits .corner-x)) tt)
 
 row-fits : (window : Window) (at : Position) → Reachable window at → SFits w64 (row window at)
 unfolding row indexOf
-row-fits window at h = fits64-floor (window .side) (fits64 (magnitude-difference (h .y-limit) (h .corner-y)) tt)
+row-fits window at h = fits64-floor (window .side) (fits64 (magnitude-difference (h .y-limit) (h .limits .corner-y)) tt)
 
 -- what is known where the function begins, from each place after it
 abbrev start-column : tie.After-index-of → tie.Start
@@ -46,7 +46,7 @@ column-is : (c : tie.After-index-of) → toZ w64 (ofZ w64 (c .index-of .result))
 unfolding column
 column-is c =
     let s = start-column c in
-    read-back (simp (toZ-ofZ, fits64 (s .pre .corner-x) tt, fits64 (s .pre .x-limit) tt) at (c .index-of .ensures))
+    read-back (simp (toZ-ofZ, fits64 (s .pre .limits .corner-x) tt, fits64 (s .pre .x-limit) tt) at (c .index-of .ensures))
     (column-fits (s .args .window) (s .args .at) (s .pre))
 
 index-of-requires-2 : tie.Need-index-of-requires-2
@@ -56,7 +56,7 @@ row-is : (c : tie.After-index-of2) → toZ w64 (ofZ w64 (c .index-of2 .result)) 
 unfolding row
 row-is c =
     let s = start-row c in
-    read-back (simp (toZ-ofZ, fits64 (s .pre .corner-y) tt, fits64 (s .pre .y-limit) tt) at (c .index-of2 .ensures))
+    read-back (simp (toZ-ofZ, fits64 (s .pre .limits .corner-y) tt, fits64 (s .pre .y-limit) tt) at (c .index-of2 .ensures))
     (row-fits (s .args .window) (s .args .at) (s .pre))
 
 -- ---- the two tests
@@ -94,9 +94,9 @@ cell-number-requires : tie.Need-cell-number-requires
 cell-number-requires c κs =
     let s = start-in-rows (c .before) in
     rw (row-is (c .before .before .before .before), column-is (c .before .before .before .before .before .before)) (
-      s .pre .columns-most,
-      in-span-wider (s .args .window .rows) 1500 _ (s .pre .rows-most) (sym (row-tested (c .before)) ∙ not-false _ (c .if2 .left)),
-      in-span-wider (s .args .window .columns) 1500 _ (s .pre .columns-most) (column-inside (c .before)),
+      s .pre .limits .columns-most,
+      in-span-wider (s .args .window .rows) 1500 _ (s .pre .limits .rows-most) (sym (row-tested (c .before)) ∙ not-false _ (c .if2 .left)),
+      in-span-wider (s .args .window .columns) 1500 _ (s .pre .limits .columns-most) (column-inside (c .before)),
     )
 
 returns-3 : tie.Need-returns-3

@@ -50,84 +50,84 @@ product-over-q-requires : tie.Need-product-over-q-requires
 product-over-q-requires c κs =
     let o = c .before .before in
     let h = o .pre in
-    simp (toZ-ofZ, fits64 (h .sd-limit) tt, fits64 (h .ca-limit) tt) (narrow (h .sd-limit) tt, narrow (h .ca-limit) tt)
+    simp (toZ-ofZ, fits64 (h .sd-limit) tt, fits64 (h .ray .ca-limit) tt) (narrow (h .sd-limit) tt, narrow (h .ray .ca-limit) tt)
 
 w-is : (c : tie.After-product-over-q) → c .product-over-q .result ≡ w (start-w c .args .s) (start-w c .args .a) (start-w c .args .c)
 unfolding w
 w-is c =
     let o = start-w c in
     let h = o .pre in
-    simp (toZ-ofZ, fits64 (h .sd-limit) tt, fits64 (h .ca-limit) tt) at (c .product-over-q .ensures)
+    simp (toZ-ofZ, fits64 (h .sd-limit) tt, fits64 (h .ray .ca-limit) tt) at (c .product-over-q .ensures)
 
 -- e = floor(sd x sa / Q)
 product-over-q-requires-2 : tie.Need-product-over-q-requires-2
 product-over-q-requires-2 c κs =
     let o = c .before .before .before .before .before in
     let h = o .pre in
-    simp (toZ-ofZ, fits64 (h .sd-limit) tt, fits64 (h .sa-limit) tt) (narrow (h .sd-limit) tt, narrow (h .sa-limit) tt)
+    simp (toZ-ofZ, fits64 (h .sd-limit) tt, fits64 (h .ray .sa-limit) tt) (narrow (h .sd-limit) tt, narrow (h .ray .sa-limit) tt)
 
 e-is : (c : tie.After-product-over-q2) → c .product-over-q2 .result ≡ e (start-e c .args .s) (start-e c .args .a) (start-e c .args .c)
 unfolding e
 e-is c =
     let o = start-e c in
     let h = o .pre in
-    simp (toZ-ofZ, fits64 (h .sd-limit) tt, fits64 (h .sa-limit) tt) at (c .product-over-q2 .ensures)
+    simp (toZ-ofZ, fits64 (h .sd-limit) tt, fits64 (h .ray .sa-limit) tt) at (c .product-over-q2 .ensures)
 
 -- n = floor((sp x cd + cp x w) / Q)
 sum-over-q-requires : tie.Need-sum-over-q-requires
 sum-over-q-requires c κs =
     let o = c .before .before .before .before .before .before .before .before .before in
     let h = o .pre in
-    rw (read-back (w-is (c .before .before .before .before .before .before)) (fits64 (w-limit (o .args .s) (o .args .a) (o .args .c) (o .args .k) h) tt)) (simp (toZ-ofZ, fits64 (h .sp-limit) tt, fits64 (h .cd-limit) tt, fits64 (h .cp-limit) tt) (narrow (h .sp-limit) tt, narrow (h .cd-limit) tt, narrow (h .cp-limit) tt, narrow (w-limit (o .args .s) (o .args .a) (o .args .c) (o .args .k) h) tt))
+    rw (read-back (w-is (c .before .before .before .before .before .before)) (fits64 (w-limit (o .args .s) (o .args .a) (o .args .c) (o .args .k) h) tt)) (simp (toZ-ofZ, fits64 (h .site .sp-limit) tt, fits64 (h .cd-limit) tt, fits64 (h .site .cp-limit) tt) (narrow (h .site .sp-limit) tt, narrow (h .cd-limit) tt, narrow (h .site .cp-limit) tt, narrow (w-limit (o .args .s) (o .args .a) (o .args .c) (o .args .k) h) tt))
 
 n-is : (c : tie.After-sum-over-q) → c .sum-over-q .result ≡ n (start-n c .args .s) (start-n c .args .a) (start-n c .args .c)
 unfolding n
 n-is c =
     let o = start-n c in
     let h = o .pre in
-    simp (toZ-ofZ, fits64 (h .sp-limit) tt, fits64 (h .cd-limit) tt, fits64 (h .cp-limit) tt) at (rw (read-back (w-is (c .before .before .before .before .before .before .before)) (fits64 (w-limit (o .args .s) (o .args .a) (o .args .c) (o .args .k) h) tt)) at (c .sum-over-q .ensures))
+    simp (toZ-ofZ, fits64 (h .site .sp-limit) tt, fits64 (h .cd-limit) tt, fits64 (h .site .cp-limit) tt) at (rw (read-back (w-is (c .before .before .before .before .before .before .before)) (fits64 (w-limit (o .args .s) (o .args .a) (o .args .c) (o .args .k) h) tt)) at (c .sum-over-q .ensures))
 
 -- m = floor((cp x cd - sp x w) / Q)
 difference-over-q-requires : tie.Need-difference-over-q-requires
 difference-over-q-requires c κs =
     let o = c .before .before .before .before .before .before .before .before .before .before .before .before .before in
     let h = o .pre in
-    rw (read-back (w-is (c .before .before .before .before .before .before .before .before .before .before)) (fits64 (w-limit (o .args .s) (o .args .a) (o .args .c) (o .args .k) h) tt)) (simp (toZ-ofZ, fits64 (h .cp-limit) tt, fits64 (h .cd-limit) tt, fits64 (h .sp-limit) tt) (narrow (h .cp-limit) tt, narrow (h .cd-limit) tt, narrow (h .sp-limit) tt, narrow (w-limit (o .args .s) (o .args .a) (o .args .c) (o .args .k) h) tt))
+    rw (read-back (w-is (c .before .before .before .before .before .before .before .before .before .before)) (fits64 (w-limit (o .args .s) (o .args .a) (o .args .c) (o .args .k) h) tt)) (simp (toZ-ofZ, fits64 (h .site .cp-limit) tt, fits64 (h .cd-limit) tt, fits64 (h .site .sp-limit) tt) (narrow (h .site .cp-limit) tt, narrow (h .cd-limit) tt, narrow (h .site .sp-limit) tt, narrow (w-limit (o .args .s) (o .args .a) (o .args .c) (o .args .k) h) tt))
 
 m-is : (c : tie.After-difference-over-q) → c .difference-over-q .result ≡ m (start-m c .args .s) (start-m c .args .a) (start-m c .args .c)
 unfolding m
 m-is c =
     let o = start-m c in
     let h = o .pre in
-    simp (toZ-ofZ, fits64 (h .cp-limit) tt, fits64 (h .cd-limit) tt, fits64 (h .sp-limit) tt) at (rw (read-back (w-is (c .before .before .before .before .before .before .before .before .before .before .before)) (fits64 (w-limit (o .args .s) (o .args .a) (o .args .c) (o .args .k) h) tt)) at (c .difference-over-q .ensures))
+    simp (toZ-ofZ, fits64 (h .site .cp-limit) tt, fits64 (h .cd-limit) tt, fits64 (h .site .sp-limit) tt) at (rw (read-back (w-is (c .before .before .before .before .before .before .before .before .before .before .before)) (fits64 (w-limit (o .args .s) (o .args .a) (o .args .c) (o .args .k) h) tt)) at (c .difference-over-q .ensures))
 
 -- u = floor((e x cl + m x sl) / Q)
 sum-over-q-requires-2 : tie.Need-sum-over-q-requires-2
 sum-over-q-requires-2 c κs =
     let o = c .before .before .before .before .before .before .before .before .before .before .before .before .before .before .before .before in
     let h = o .pre in
-    rw (read-back (e-is (c .before .before .before .before .before .before .before .before .before .before)) (fits64 (e-limit (o .args .s) (o .args .a) (o .args .c) (o .args .k) h) tt), read-back (m-is (c .before .before)) (fits64 (m-limit (o .args .s) (o .args .a) (o .args .c) (o .args .k) h) tt)) (simp (toZ-ofZ, fits64 (h .cl-limit) tt, fits64 (h .sl-limit) tt) (narrow (e-limit (o .args .s) (o .args .a) (o .args .c) (o .args .k) h) tt, narrow (h .cl-limit) tt, narrow (m-limit (o .args .s) (o .args .a) (o .args .c) (o .args .k) h) tt, narrow (h .sl-limit) tt))
+    rw (read-back (e-is (c .before .before .before .before .before .before .before .before .before .before)) (fits64 (e-limit (o .args .s) (o .args .a) (o .args .c) (o .args .k) h) tt), read-back (m-is (c .before .before)) (fits64 (m-limit (o .args .s) (o .args .a) (o .args .c) (o .args .k) h) tt)) (simp (toZ-ofZ, fits64 (h .site .cl-limit) tt, fits64 (h .site .sl-limit) tt) (narrow (e-limit (o .args .s) (o .args .a) (o .args .c) (o .args .k) h) tt, narrow (h .site .cl-limit) tt, narrow (m-limit (o .args .s) (o .args .a) (o .args .c) (o .args .k) h) tt, narrow (h .site .sl-limit) tt))
 
 u-is : (c : tie.After-sum-over-q2) → c .sum-over-q2 .result ≡ u (start-u c .args .s) (start-u c .args .a) (start-u c .args .c)
 unfolding u
 u-is c =
     let o = start-u c in
     let h = o .pre in
-    simp (toZ-ofZ, fits64 (h .cl-limit) tt, fits64 (h .sl-limit) tt) at (rw (read-back (e-is (c .before .before .before .before .before .before .before .before .before .before .before)) (fits64 (e-limit (o .args .s) (o .args .a) (o .args .c) (o .args .k) h) tt), read-back (m-is (c .before .before .before)) (fits64 (m-limit (o .args .s) (o .args .a) (o .args .c) (o .args .k) h) tt)) at (c .sum-over-q2 .ensures))
+    simp (toZ-ofZ, fits64 (h .site .cl-limit) tt, fits64 (h .site .sl-limit) tt) at (rw (read-back (e-is (c .before .before .before .before .before .before .before .before .before .before .before)) (fits64 (e-limit (o .args .s) (o .args .a) (o .args .c) (o .args .k) h) tt), read-back (m-is (c .before .before .before)) (fits64 (m-limit (o .args .s) (o .args .a) (o .args .c) (o .args .k) h) tt)) at (c .sum-over-q2 .ensures))
 
 -- v = floor((m x cl - e x sl) / Q)
 difference-over-q-requires-2 : tie.Need-difference-over-q-requires-2
 difference-over-q-requires-2 c κs =
     let o = c .before .before .before .before .before .before .before .before .before .before .before .before .before .before .before .before .before .before .before in
     let h = o .pre in
-    rw (read-back (m-is (c .before .before .before .before .before)) (fits64 (m-limit (o .args .s) (o .args .a) (o .args .c) (o .args .k) h) tt), read-back (e-is (c .before .before .before .before .before .before .before .before .before .before .before .before .before)) (fits64 (e-limit (o .args .s) (o .args .a) (o .args .c) (o .args .k) h) tt)) (simp (toZ-ofZ, fits64 (h .cl-limit) tt, fits64 (h .sl-limit) tt) (narrow (m-limit (o .args .s) (o .args .a) (o .args .c) (o .args .k) h) tt, narrow (h .cl-limit) tt, narrow (e-limit (o .args .s) (o .args .a) (o .args .c) (o .args .k) h) tt, narrow (h .sl-limit) tt))
+    rw (read-back (m-is (c .before .before .before .before .before)) (fits64 (m-limit (o .args .s) (o .args .a) (o .args .c) (o .args .k) h) tt), read-back (e-is (c .before .before .before .before .before .before .before .before .before .before .before .before .before)) (fits64 (e-limit (o .args .s) (o .args .a) (o .args .c) (o .args .k) h) tt)) (simp (toZ-ofZ, fits64 (h .site .cl-limit) tt, fits64 (h .site .sl-limit) tt) (narrow (m-limit (o .args .s) (o .args .a) (o .args .c) (o .args .k) h) tt, narrow (h .site .cl-limit) tt, narrow (e-limit (o .args .s) (o .args .a) (o .args .c) (o .args .k) h) tt, narrow (h .site .sl-limit) tt))
 
 v-is : (c : tie.After-difference-over-q2) → c .difference-over-q2 .result ≡ v (start-v c .args .s) (start-v c .args .a) (start-v c .args .c)
 unfolding v
 v-is c =
     let o = start-v c in
     let h = o .pre in
-    simp (toZ-ofZ, fits64 (h .cl-limit) tt, fits64 (h .sl-limit) tt) at (rw (read-back (m-is (c .before .before .before .before .before .before)) (fits64 (m-limit (o .args .s) (o .args .a) (o .args .c) (o .args .k) h) tt), read-back (e-is (c .before .before .before .before .before .before .before .before .before .before .before .before .before .before)) (fits64 (e-limit (o .args .s) (o .args .a) (o .args .c) (o .args .k) h) tt)) at (c .difference-over-q2 .ensures))
+    simp (toZ-ofZ, fits64 (h .site .cl-limit) tt, fits64 (h .site .sl-limit) tt) at (rw (read-back (m-is (c .before .before .before .before .before .before)) (fits64 (m-limit (o .args .s) (o .args .a) (o .args .c) (o .args .k) h) tt), read-back (e-is (c .before .before .before .before .before .before .before .before .before .before .before .before .before .before)) (fits64 (e-limit (o .args .s) (o .args .a) (o .args .c) (o .args .k) h) tt)) at (c .difference-over-q2 .ensures))
 
 -- ---- the divisor, Q + n
 

@@ -1,0 +1,139 @@
+-- `placement::ledger::ray_ledger` meets its contract. The loop's invariant: the places from start up to k hold their entries, and
+-- the others what they held. Assumes nothing.
+use mathlib.Core.Path.{_≡_, sym, ap, _∙_}
+use Prim.Native.Nat.{ℕ, _+_, _*_, _-_, _≤_, _<_}
+use native.Mathlib.Nat.{le-antisymm}
+use native.Mathlib.Omega.{arith}
+use borrow.Author.Needs.{needs, scaled-fits}
+use lib.ListN.{length}
+use Rattle.arithmetic.specs.Places.{Written}
+use Rattle.arithmetic.proofs.Places.{written-none, written-more, written-up-to}
+use Rattle.placement.specs.declared.survey.Survey.{Survey}
+use Rattle.placement.specs.Gate.{entryOf}
+use Rattle.placement.specs.Position.{rayTerms}
+use Rattle.placement.specs.Survey.{surveyed, surveyedEntry}
+use Rattle.placement.proofs.GateTerms.{ray-limits}
+use Rattle.placement.proofs.OtherAnswers.{not-inside}
+use Rattle.placement.proofs.ledger.ray_ledger.Statement.{statement}
+use Rattle.placement.proofs.ledger.ray_ledger.Tie as tie
+
+abbrev Inv-loop : tie.InvT-loop
+Inv-loop survey azimuth first spacing ledger₀ start end ray k₀ ledger k =
+    (start ≤ k) × (k ≤ end) × Written (λ j. surveyedEntry survey azimuth (first + (j - start) * spacing)) start k ledger₀ ledger
+
+abbrev μ-loop : tie.MeasureT-loop
+μ-loop survey azimuth first spacing ledger₀ start end ray k₀ ledger k = end - k
+
+-- the gate's range, and the entry of the answer
+gate-range : (c : tie.In-loop Inv-loop μ-loop) → c .before .before .before .before .args .first + (c .before .loop .k - c .before .before .before .before .args .start) * c .before .before .before .before .args .spacing ≤ 46000000
+gate-range c = c .before .before .before .before .pre .1 .ranges (c .before .loop .k) (c .loop-test .taken)
+
+entry-is : (c : tie.After-gate-at Inv-loop μ-loop) → entryOf (c .gate-at .result) ≡ surveyedEntry (c .before .before .before .before .before .args .survey) (c .before .before .before .before .before .args .azimuth) (c .before .before .before .before .before .args .first + (c .before .before .loop .k - c .before .before .before .before .before .args .start) * c .before .before .before .before .before .args .spacing)
+unfolding surveyedEntry
+entry-is c = ap entryOf (rw (c .before .before .before .ray-terms .ensures) at (c .gate-at .ensures))
+
+ray-terms-requires : tie.Need-ray-terms-requires Inv-loop μ-loop
+ray-terms-requires c κs = search needs
+
+loop-holds : tie.Need-loop-holds Inv-loop μ-loop
+loop-holds c = (omega arith, omega arith, written-none _ _ _)
+
+sub-range : tie.Need-sub-range Inv-loop μ-loop
+sub-range c = omega arith
+
+cast-range : tie.Need-cast-range Inv-loop μ-loop
+cast-range c = omega arith
+
+mul-range : tie.Need-mul-range Inv-loop μ-loop
+mul-range c = omega (arith, gate-range c)
+
+add-range : tie.Need-add-range Inv-loop μ-loop
+add-range c = omega (arith, gate-range c)
+
+gate-at-requires : tie.Need-gate-at-requires Inv-loop μ-loop
+gate-at-requires c κs =
+    let s = c .before .before .before .before in
+    rw (c .before .before .ray-terms .ensures) (s .pre .0, ray-limits (s .args .azimuth), gate-range c)
+
+enum-known-cell : tie.Need-enum-known-cell Inv-loop μ-loop
+enum-known-cell c = search needs
+
+mul-ledger : tie.Need-mul-ledger Inv-loop μ-loop
+mul-ledger c =
+    let s = c .before .before .before .before .before .before in
+    scaled-fits (c .before .before .before .loop .k) (length (s .args .ledger .now)) 4 (omega arith) (s .good .1 .1 .1 .1 .0 .1)
+
+slice-write-ledger : tie.Need-slice-write-ledger Inv-loop μ-loop
+slice-write-ledger c = omega (arith, c .before .before .before .loop .inv .2 .same-length)
+
+add-k : tie.Need-add-k Inv-loop μ-loop
+add-k c = omega (arith, c .before .before .before .before .before .before .good .1 .1 .1 .1 .0 .0)
+
+loop-less : tie.Need-loop-less Inv-loop μ-loop
+loop-less c = omega arith
+
+loop-again : tie.Need-loop-again Inv-loop μ-loop
+loop-again c =
+    let l = c .before .before .before .loop in (
+      omega arith,
+      omega arith,
+      written-more _ _ _ _ _ _ (l .inv .2) (l .inv .0) (omega arith) (not-inside (c .before .gate-at .result) (c .match .keys2) ∙ entry-is (c .before)),
+    )
+
+mul-ledger-2 : tie.Need-mul-ledger-2 Inv-loop μ-loop
+mul-ledger-2 c =
+    let s = c .before .before .before .before .before .before .before .before in
+    scaled-fits (c .before .before .before .before .before .loop .k) (length (s .args .ledger .now)) 4 (omega arith) (s .good .1 .1 .1 .1 .0 .1)
+
+slice-write-ledger-2 : tie.Need-slice-write-ledger-2 Inv-loop μ-loop
+slice-write-ledger-2 c = omega (arith, c .before .before .before .before .before .loop .inv .2 .same-length)
+
+add-k-2 : tie.Need-add-k-2 Inv-loop μ-loop
+add-k-2 c = omega (arith, c .before .before .before .before .before .before .before .before .good .1 .1 .1 .1 .0 .0)
+
+loop-less-2 : tie.Need-loop-less-2 Inv-loop μ-loop
+loop-less-2 c = omega arith
+
+loop-again-2 : tie.Need-loop-again-2 Inv-loop μ-loop
+unfolding entryOf
+loop-again-2 c =
+    let l = c .before .before .before .before .before .loop in (
+      omega arith,
+      omega arith,
+      written-more _ _ _ _ _ _ (l .inv .2) (l .inv .0) (omega arith) (sym (ap entryOf (c .before .cell .given .1)) ∙ entry-is (c .before .before .before)),
+    )
+
+same-length : tie.Need-same-length Inv-loop μ-loop
+same-length c = c .before .loop .inv .2 .same-length
+
+returns : tie.Need-returns Inv-loop μ-loop
+returns c =
+    let l = c .before .loop in
+    written-up-to (le-antisymm (l .inv .1) (c .loop-test .left)) (l .inv .2)
+
+pub ray-ledger-spec : {M : Type 1} → statement M
+ray-ledger-spec =
+    tie.close
+    (tie.spec
+    Inv-loop
+    μ-loop
+    ray-terms-requires
+    loop-holds
+    sub-range
+    cast-range
+    mul-range
+    add-range
+    gate-at-requires
+    enum-known-cell
+    mul-ledger
+    slice-write-ledger
+    add-k
+    loop-less
+    loop-again
+    mul-ledger-2
+    slice-write-ledger-2
+    add-k-2
+    loop-less-2
+    loop-again-2
+    same-length
+    returns)

@@ -1,0 +1,46 @@
+-- What a site and a grid give once for all of their gates, and a gate's placement from it. Assumes nothing.
+use mathlib.Core.List.{List}
+use Prim.Native.Nat.{ℕ, _+_, _*_, _-_, _≤_, _<_}
+use lib.ListN.{length}
+use Rattle.arithmetic.specs.Magnitude.{Magnitude}
+use Rattle.placement.specs.declared.gate.Placement.{Placement}
+use Rattle.placement.specs.declared.grid.Grid.{Grid}
+use Rattle.placement.specs.declared.position.RayTerms.{RayTerms}
+use Rattle.placement.specs.declared.position.Site.{Site}
+use Rattle.placement.specs.declared.survey.Survey.{Survey}
+use Rattle.placement.specs.Arc.{arcTerms}
+use Rattle.placement.specs.Gate.{entryOf}
+use Rattle.placement.specs.Position.{siteTerms, rayTerms, positionBy}
+use Rattle.placement.specs.Sphere.{sphereOf}
+use Rattle.placement.specs.Terms.{kLimit, SiteLimits, WindowLimits}
+use Rattle.placement.specs.Window.{windowOf, located}
+
+unfoldable pub surveyOf : Site → Grid → Survey
+surveyOf site grid = record {
+  terms = siteTerms (sphereOf grid .meridian) site;
+  sphere = sphereOf grid;
+  window = windowOf grid;
+}
+
+unfoldable pub surveyed : Survey → RayTerms → ℕ → Placement
+surveyed survey ray range =
+    located (survey .window) (positionBy (survey .terms) ray (arcTerms (survey .sphere .radius) range) (survey .sphere .k))
+
+-- the ledger entry of a gate
+unfoldable pub surveyedEntry : Survey → ℕ → ℕ → ℕ
+surveyedEntry survey azimuth range = entryOf (surveyed survey (rayTerms azimuth) range)
+
+-- what is known of the survey of an accepted site and grid
+pub record Surveyed (survey : Survey) : Type 0 where
+  pub radius-least : 637004000 ≤ survey .sphere .radius
+  pub radius-most : survey .sphere .radius ≤ 637120000
+  pub k-limit : Magnitude (survey .sphere .k) kLimit
+  pub site : SiteLimits (survey .terms)
+  pub window : WindowLimits (survey .window)
+
+-- a ray's gates stand in the ledger from place start up to place end, none beyond the greatest range
+pub record RaySpan (first spacing start end : ℕ) (ledger : List ℕ) : Type 0 where
+  pub start-end : start ≤ end
+  pub gates-most : end ≤ start + 1000
+  pub end-most : end ≤ length ledger
+  pub ranges : (k : ℕ) → k < end → first + (k - start) * spacing ≤ 46000000

@@ -1,0 +1,146 @@
+"""Document 01's whole scan: the refusals, the ledger, the sums and the published cells.
+
+It is written from document 01 alone and shares nothing with the library.
+The position is worked by the same rule as that of one gate in placement.py. Here it is spelled out in whole numbers, so that what the
+site decides is worked once a scan, what the azimuth decides once a ray, and what the range decides once a gate number.
+"""
+from typing import Any, NamedTuple, Sequence
+
+from second_program import placement
+from second_program.placement import FLOORED, OUTSIDE, Hrap, Radolan
+
+NO_ECHO = 65_534  # measured, counts as 0
+NOT_MEASURED = 65_535
+NO_MEAN = 65_535
+
+
+class Scan(NamedTuple):
+    rays: int
+    gates: int
+    first: int
+    spacing: int
+    latitude: int
+    longitude: int
+    grid: Radolan | Hrap
+    by_quality: bool
+    azimuths: Sequence[int]
+    values: Sequence[int]
+    qualities: Sequence[int]
+
+
+class Lent(NamedTuple):
+    """Something for each of the lists that are lent to be written: its length, or what it holds."""
+
+    ledger: Any
+    counts: Any
+    quality_sums: Any
+    value_sums: Any
+    means: Any
+    cell_qualities: Any
+
+
+class Remapped(NamedTuple):
+    """The answer for a scan. After a refusal there are no lists: the lent ones stay as they came in."""
+
+    refusal: int
+    lists: Lent | None
+
+
+def centre(scan, gate):
+    return scan.first + gate * scan.spacing
+
+
+def lent_lengths(scan):
+    """The exact lengths of the lists that are lent to be written."""
+    cells = scan.grid.columns * scan.grid.rows
+    return Lent(scan.rays * scan.gates, cells, cells, cells, cells, cells)
+
+
+# Refusals.
+
+
+def wrong_numbers(scan, lengths):
+    """All refusal numbers that apply, where the lists to be written have these lengths."""
+    given = (len(scan.azimuths), len(scan.values), len(scan.qualities))
+    exact = (scan.rays, scan.rays * scan.gates, scan.rays * scan.gates)
+    right = {
+        1: 1 <= scan.rays <= 720,
+        2: 1 <= scan.gates <= 1_000,
+        3: 0 <= scan.first <= 46_000_000
+        and 1 <= scan.spacing <= 1_000_000
+        and centre(scan, scan.gates - 1) <= 46_000_000,
+        4: 200_000 <= scan.latitude <= 750_000 and -1_800_000 <= scan.longitude <= 1_800_000,
+        5: scan.grid.allowed(),
+        6: given == exact and lengths == lent_lengths(scan),
+        7: all(0 <= azimuth <= 3_599_999 for azimuth in scan.azimuths),
+        8: all(0 <= quality <= 100 for quality in scan.qualities),
+    }
+    return [number for number in right if not right[number]]
+
+
+def refusal(scan, lengths):
+    """The lowest refusal number that applies, 0 where none does."""
+    return min(wrong_numbers(scan, lengths), default=0)
+
+
+# Ledger and cells.
+
+
+def ledger(scan):
+    grid, sphere = scan.grid, scan.grid.sphere
+    q, k = FLOORED.q, sphere.k
+    sp, cp = FLOORED.sine(scan.latitude), FLOORED.cosine(scan.latitude)
+    sl, cl = FLOORED.sine(scan.longitude - sphere.meridian), FLOORED.cosine(scan.longitude - sphere.meridian)
+    corner_x, corner_y = grid.corner
+    side, columns, rows = grid.side, grid.columns, grid.rows
+    arcs = [placement.arc(centre(scan, gate), sphere.radius, FLOORED) for gate in range(scan.gates)]
+    entries = []
+    for azimuth in scan.azimuths:
+        sa, ca = FLOORED.sine(azimuth), FLOORED.cosine(azimuth)
+        for sd, cd in arcs:
+            # // goes towards minus infinity.
+            w = sd * ca // q
+            e = sd * sa // q
+            n = (sp * cd + cp * w) // q
+            m = (cp * cd - sp * w) // q
+            u = (e * cl + m * sl) // q
+            v = (m * cl - e * sl) // q
+            x = k * u // (q + n)
+            y = -k * v // (q + n)
+            column = (x - corner_x) // side
+            row = (y - corner_y) // side
+            inside = 0 <= column < columns and 0 <= row < rows
+            entries.append(row * columns + column if inside else OUTSIDE)
+    return entries
+
+
+def tally(scan, entries):
+    """Counts, quality sums and value sums."""
+    cells = scan.grid.columns * scan.grid.rows
+    counts, quality_sums, value_sums = [0] * cells, [0] * cells, [0] * cells
+    for entry, value, quality in zip(entries, scan.values, scan.qualities):
+        if entry == OUTSIDE or value == NOT_MEASURED:
+            continue
+        counted = 0 if value == NO_ECHO else value
+        counts[entry] += 1
+        quality_sums[entry] += quality
+        value_sums[entry] += counted * quality if scan.by_quality else counted
+    return counts, quality_sums, value_sums
+
+
+def publish(by_quality, counts, quality_sums, value_sums):
+    """Means and cell qualities."""
+    divisors = quality_sums if by_quality else counts
+    means = [total // divisor if divisor != 0 else NO_MEAN for total, divisor in zip(value_sums, divisors)]
+    cell_qualities = [total // count if count != 0 else 0 for total, count in zip(quality_sums, counts)]
+    return means, cell_qualities
+
+
+def remap(scan, lengths):
+    """The answer, where the lists to be written have these lengths."""
+    number = refusal(scan, lengths)
+    if number != 0:
+        return Remapped(number, None)
+    entries = ledger(scan)
+    sums = tally(scan, entries)
+    return Remapped(0, Lent(entries, *sums, *publish(scan.by_quality, *sums)))
