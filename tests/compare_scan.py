@@ -38,18 +38,18 @@ def load():
 
 # A list is lent as the middle of a longer one, whose first and last numbers must stay.
 MARGIN = 8
-# Earlier contents: the length is a prime number, so that they do not repeat with the rows of a grid.
+# What lent lists hold before a call. The length is a prime number, so that it does not repeat with the rows of a grid.
 CONTENTS = random.Random(SEED).randbytes(4_093)
-turns = cycle(range(0, len(CONTENTS), 5))
+STARTS = cycle(range(0, len(CONTENTS), 5))
 
 
 def earlier(letter, length):
-    """A list with margins that holds numbers from a sequence which begins at another place each time."""
+    """A list with margins that holds the contents, repeated, from another start each time."""
     held = array(letter)
     assert held.itemsize == sizeof(HELD[letter])
     size = (length + 2 * MARGIN) * held.itemsize
-    turn = next(turns)
-    held.frombytes((CONTENTS * (size // len(CONTENTS) + 2))[turn : turn + size])
+    start = next(STARTS)
+    held.frombytes((CONTENTS * (size // len(CONTENTS) + 2))[start : start + size])
     return held
 
 
@@ -91,17 +91,16 @@ def described(scan):
 
 
 def place_described(scan, name, place):
-    if place < 0:
-        return "before the beginning"
-    if name == "ledger":
-        if place >= len(scan.values) or scan.gates == 0 or place // scan.gates >= len(scan.azimuths):
-            return "past the end"
-        ray, gate = divmod(place, scan.gates)
-        value, quality = scan.values[place], scan.qualities[place] if place < len(scan.qualities) else "missing"
-        return f"ray {ray}, gate {gate}, azimuth {scan.azimuths[ray]}, value {value}, quality {quality}"
-    if place >= scan.grid.columns * scan.grid.rows:
-        return "past the end"
-    return f"column {place % scan.grid.columns}, row {place // scan.grid.columns}"
+    """The gate or the cell of a place. A place in the margins has none, nor have some where the lengths are wrong."""
+    if name != "ledger":
+        if not 0 <= place < scan.grid.columns * scan.grid.rows:
+            return "no cell"
+        return f"column {place % scan.grid.columns}, row {place // scan.grid.columns}"
+    if not 0 <= place < min(len(scan.azimuths) * scan.gates, len(scan.values), len(scan.qualities)):
+        return "no gate"
+    ray, gate = divmod(place, scan.gates)
+    azimuth, value, quality = scan.azimuths[ray], scan.values[place], scan.qualities[place]
+    return f"ray {ray}, gate {gate}, azimuth {azimuth}, value {value}, quality {quality}"
 
 
 def list_differences(scan, name, got, expected, says):
@@ -233,12 +232,10 @@ def filled(draw, numbers, values, qualities, azimuths):
 
 def every_mixture(draw):
     """Both grids, both weightings, every pool of values at every place."""
-    qualities, azimuths = cycle(QUALITIES), cycle(AZIMUTHS)
+    azimuths = cycle(AZIMUTHS)
     for by_quality, place, values, kind in product((False, True), PLACES, VALUES, (Radolan, Hrap)):
-        rays, gates = draw.randint(1, 24), draw.randint(1, 80)
-        yield any_scan(draw, kind, by_quality, place, values, next(qualities), next(azimuths), rays, gates)
-        if place == "around the radar":
-            next(azimuths)  # so that pools and azimuths meet in other pairs
+        rays, gates, qualities = draw.randint(1, 24), draw.randint(1, 80), draw.choice(QUALITIES)
+        yield any_scan(draw, kind, by_quality, place, values, qualities, next(azimuths), rays, gates)
 
 
 def at_random(draw):
@@ -484,7 +481,7 @@ def hrap_changes():
 
 # 3 rays, 15 gates and 8 cells: no list has the length of another kind.
 RADOLAN_SCAN = Scan(
-    *(3, 5, 200_000, 100_000, 510_000, 100_000, Radolan(-400_000, -465_400_000, 200_000, 4, 2), True),
+    *(3, 5, 200_000, 100_000, 510_000, 100_000, Radolan(-800_000, -421_300_000, 400_000, 4, 2), True),
     *([0, 1_200_000, 2_400_000], list(range(1, 16)), list(range(60, 75))),
 )
 HRAP_SCAN = Scan(
@@ -563,10 +560,10 @@ def draw_apart(draw, options):
             return chosen
 
 
-def refusal_differences(compiled, cases):
+def refusal_differences(compiled, chosen):
     """The differences, and the sets of numbers of which all and no other applied, for each kind of grid."""
     lines, met = [], set()
-    for good, changes in cases:
+    for good, changes in chosen:
         scan, lengths = apply(good, changes)
         met.add((type(good.grid), *rules.wrong_numbers(scan, lengths)))
         expected = rules.remap(scan, lengths)
@@ -588,17 +585,17 @@ def not_met(met, size):
 
 
 def refusals(compiled):
-    cases = list(limits())
-    lines, met = refusal_differences(compiled, cases)
+    chosen = list(limits())
+    lines, met = refusal_differences(compiled, chosen)
     lines += not_met(met, 1)
-    yield f"refusals of a scan, each alone, at both sides of each limit, {len(cases)} scans", lines
-    cases = list(pairs())
-    lines, met = refusal_differences(compiled, cases)
+    yield f"refusals of a scan, each alone, at both sides of each limit, {len(chosen)} scans", lines
+    chosen = list(pairs())
+    lines, met = refusal_differences(compiled, chosen)
     lines += not_met(met, 2)
-    yield f"refusals of a scan in pairs, {len(cases)} scans", lines
-    cases = list(together(random.Random(SEED)))
-    lines, _ = refusal_differences(compiled, cases)
-    yield f"refusals of a scan, three to eight together, {len(cases)} scans, seed {SEED}", lines
+    yield f"refusals of a scan in pairs, {len(chosen)} scans", lines
+    chosen = list(together(random.Random(SEED)))
+    lines, _ = refusal_differences(compiled, chosen)
+    yield f"refusals of a scan, three to eight together, {len(chosen)} scans, seed {SEED}", lines
 
 
 # Document 01's cases. All numbers that are expected are written here by hand.

@@ -1,8 +1,8 @@
 """Document 01's whole scan: the refusals, the ledger, the sums and the published cells.
 
 It is written from document 01 alone and shares nothing with the library.
-The position is worked by the same rule as that of one gate in placement.py. Here it is spelled out in whole numbers, so that what the
-site decides is worked once a scan, what the azimuth decides once a ray, and what the range decides once a gate number.
+The position follows the same rule as that of one gate in placement.py. Here it is spelled out in whole numbers, so that what
+the site decides is worked once a scan, what the azimuth decides once a ray, and what the range decides once a gate number.
 """
 from typing import Any, NamedTuple, Sequence
 

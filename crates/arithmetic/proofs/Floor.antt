@@ -30,7 +30,7 @@ floor-near z m h =
 
 -- ---- floor and remainder are the only such numbers
 
-small-division : (a m r : ℕ) → r < m → ((a * m + r) / m ≡ a) × ((a * m + r) % m ≡ r)
+pub small-division : (a m r : ℕ) → r < m → ((a * m + r) / m ≡ a) × ((a * m + r) % m ≡ r)
 small-division a m r h =
     (div-eq-of-lt-le {k = a} m (omega arith) (omega arith), rw (mul-add-mod-self-right a m r) (mod-eq-of-lt h))
 

@@ -105,6 +105,14 @@ written-join f a b c before between after h i v w = record {
 pub written-up-to : {f : ℕ → ℕ} {a b c : ℕ} {before after : List ℕ} → b ≡ c → Written f a b before after → Written f a c before after
 written-up-to {f} {a} {b} {c} {before} {after} e w = subst (λ (n : ℕ). Written f a n before after) e w
 
+pub written-ext : (f g : ℕ → ℕ) (a b : ℕ) (before after : List ℕ) → ((k : ℕ) → a ≤ k → k < b → f k ≡ g k) → Written f a b before after → Written g a b before after
+written-ext f g a b before after e w = record {
+  same-length = w .same-length;
+  written = λ k h i j. w .written k h i j ∙ e k h i;
+  kept-below = w .kept-below;
+  kept-above = w .kept-above;
+}
+
 -- the whole list
 pub written-all : (f : ℕ → ℕ) (n : ℕ) (before after : List ℕ) → Written f 0 n before after → n ≡ length before → after ≡ table f n
 written-all f n before after w e =
@@ -201,9 +209,9 @@ pub all-end : (test : ℕ → Bool) (xs : List ℕ) (k : ℕ) (b : Bool) → len
 unfolding allOf
 all-end test xs k b h e = sym (e ∙ rw (drop-of-length-le xs h))
 
--- what a passed test says of each place
-pub all-at : (test : ℕ → Bool) (xs : List ℕ) → allOf test xs ≡ true → (k : ℕ) → k < length xs → test (getD xs k 0) ≡ true
+-- what a passed test says of each place; behind the last one 0 stands, which must pass too
+pub all-at : (test : ℕ → Bool) (xs : List ℕ) → test 0 ≡ true → allOf test xs ≡ true → (k : ℕ) → test (getD xs k 0) ≡ true
 unfolding allOf
-all-at test [] e k h = absurd (not-suc-le-zero h)
-all-at test (x ∷ xs) e zero h = and-true (test x) (allOf test xs) e .0
-all-at test (x ∷ xs) e (suc k) h = all-at test xs (and-true (test x) (allOf test xs) e .1) k (le-of-suc-le-suc h)
+all-at test [] z e k = z
+all-at test (x ∷ xs) z e zero = and-true (test x) (allOf test xs) e .0
+all-at test (x ∷ xs) z e (suc k) = all-at test xs z (and-true (test x) (allOf test xs) e .1) k

@@ -7,6 +7,7 @@ use borrow.Author.Tests.{leb-true}
 use lib.Dec.{T, leb}
 use lib.IntN.{ℤ, pos, negsuc, _-ℤ_, _*ℤ_}
 use Rattle.arithmetic.specs.Magnitude.{Magnitude}
+use Rattle.arithmetic.proofs.Test.{and-true}
 use Rattle.arithmetic.proofs.Magnitude.{magnitude-pos, magnitude-difference, magnitude-product}
 use Rattle.placement.specs.declared.grid.Grid.the-variants.{Radolan, Hrap}
 use Rattle.placement.specs.declared.grid.HrapGrid.{HrapGrid}
@@ -16,12 +17,7 @@ use Rattle.placement.specs.Refusal.{inRange, inSignedRange, rangeAccepte
 
 -- ---- one test
 
--- both of two tests pass
-pub and-true : (a b : Bool) → (a && b) ≡ true → (a ≡ true) × (b ≡ true)
-and-true true b e = (refl, e)
-and-true false b e = (e, cc)
-
-range-bounds : (least most x : ℕ) → inRange least most x ≡ true → (least ≤ x) × (x ≤ most)
+pub range-bounds : (least most x : ℕ) → inRange least most x ≡ true → (least ≤ x) × (x ≤ most)
 unfolding inRange
 range-bounds least most x e =
     let h = and-true (leb least x) (leb x most) e in

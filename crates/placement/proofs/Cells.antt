@@ -7,7 +7,7 @@ use borrow.Author.Tests.{ltb-true, lt-ltb}
 use lib.Dec.{T, leb, ltb, leb·zero}
 use lib.IntN.{ℤ, pos, negsuc, natAbs}
 use Rattle.placement.specs.Window.{inSpan}
-use Rattle.placement.proofs.Accepted.{and-true}
+use Rattle.arithmetic.proofs.Test.{and-true}
 
 -- an index of the grid is a natural number below the count
 pub in-span-natural : (count : ℕ) (index : ℤ) → inSpan count index ≡ true → (index ≡ pos (natAbs index)) × (natAbs index < count)

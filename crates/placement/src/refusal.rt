@@ -74,7 +74,7 @@ fn size_accepted(columns: u32, rows: u32) -> bool
 }
 
 // x is from least to most.
-fn in_range(least: u32, most: u32, x: u32) -> bool
+pub fn in_range(least: u32, most: u32, x: u32) -> bool
     ensures { λ r. ⌜ r ≡ inRange least most x ⌝ }
 {
     if x < least {

@@ -1,0 +1,128 @@
+-- What is accepted of a scan, as bounds of its numbers; and a scan that is not refused is accepted. Assumes nothing.
+use mathlib.Core.Path.{_≡_, refl}
+use mathlib.Core.Bool.{Bool, true, false, _&&_, cond}
+use mathlib.Core.List.{List}
+use Prim.Native.Nat.{ℕ, suc, _≤_}
+use native.Mathlib.Nat.{mul-le-mul}
+use native.Mathlib.Omega.{arith}
+use borrow.Author.Tests.{eqb-true, eq-eqb}
+use lib.Dec.{eqb}
+use Rattle.arithmetic.proofs.Test.{and-true}
+use Rattle.placement.specs.declared.grid.Grid.{Grid}
+use Rattle.placement.specs.declared.grid.Grid.the-variants.{Radolan, Hrap}
+use Rattle.placement.specs.Refusal.{gridAccepted, firstRefusal}
+use Rattle.placement.specs.Window.{windowOf}
+use Rattle.placement.proofs.Accepted.{AcceptedSize, range-bounds, accepted-radolan, accepted-hrap}
+use Rattle.remap.specs.declared.scan.Lengths.{Lengths}
+use Rattle.remap.specs.declared.scan.ScanHead.{ScanHead}
+use Rattle.remap.specs.Remap.{refusalFor}
+use Rattle.remap.specs.Scan.{gatesOf, cellsOf, lengthsAccepted, scanRefusal}
+use Rattle.remap.specs.ScanRoom.{AcceptedScan}
+
+-- ---- the grid's cells
+
+pub window-size : (grid : Grid) → gridAccepted grid ≡ true → AcceptedSize (windowOf grid .columns) (windowOf grid .rows)
+unfolding windowOf
+window-size (Radolan g) e = accepted-radolan g e .size
+window-size (Hrap g) e = accepted-hrap g e .size
+
+pub cells-most : (head : ScanHead) → gridAccepted (head .grid) ≡ true → cellsOf head ≤ 2250000
+unfolding cellsOf
+cells-most head e =
+    let size = window-size (head .grid) e in
+    mul-le-mul (size .columns-most) (size .rows-most)
+
+-- ---- the lengths
+
+pub record AcceptedLengths (head : ScanHead) (given : Lengths) : Type 0 where
+  pub azimuths-length : given .azimuths ≡ head .rays
+  pub values-length : given .values ≡ gatesOf head
+  pub qualities-length : given .qualities ≡ gatesOf head
+  pub ledger-length : given .ledger ≡ gatesOf head
+  pub counts-length : given .counts ≡ cellsOf head
+  pub quality-sums-length : given .«quality_sums» ≡ cellsOf head
+  pub value-sums-length : given .«value_sums» ≡ cellsOf head
+  pub means-length : given .means ≡ cellsOf head
+  pub cell-qualities-length : given .«cell_qualities» ≡ cellsOf head
+
+-- the last of several tests, and those before it
+last-equal : (before : Bool) (a b : ℕ) → (before && eqb a b) ≡ true → (before ≡ true) × (a ≡ b)
+last-equal before a b e =
+    let h = and-true before (eqb a b) e in
+    (h .0, eqb-true a b (h .1))
+
+pub accepted-lengths : (head : ScanHead) (given : Lengths) → lengthsAccepted head given ≡ true → AcceptedLengths head given
+unfolding lengthsAccepted
+accepted-lengths head given e =
+    let cell-qualities = last-equal _ (given .«cell_qualities») (cellsOf head) e in
+    let means = last-equal _ (given .means) (cellsOf head) (cell-qualities .0) in
+    let value-sums = last-equal _ (given .«value_sums») (cellsOf head) (means .0) in
+    let quality-sums = last-equal _ (given .«quality_sums») (cellsOf head) (value-sums .0) in
+    let counts = last-equal _ (given .counts) (cellsOf head) (quality-sums .0) in
+    let ledger = last-equal _ (given .ledger) (gatesOf head) (counts .0) in
+    let qualities = last-equal _ (given .qualities) (gatesOf head) (ledger .0) in
+    let values = last-equal _ (given .values) (gatesOf head) (qualities .0) in
+    record {
+      azimuths-length = eqb-true (given .azimuths) (head .rays) (values .0);
+      values-length = values .1;
+      qualities-length = qualities .1;
+      ledger-length = ledger .1;
+      counts-length = counts .1;
+      quality-sums-length = quality-sums .1;
+      value-sums-length = value-sums .1;
+      means-length = means .1;
+      cell-qualities-length = cell-qualities .1;
+    }
+
+pub refused-lengths : (head : ScanHead) (given : Lengths) → (AcceptedLengths head given → ⊥) → false ≡ lengthsAccepted head given
+refused-lengths head given wrong = go (lengthsAccepted head given) refl
+  where
+    go : (t : Bool) → lengthsAccepted head given ≡ t → false ≡ t
+    go true e = absurd (wrong (accepted-lengths head given e))
+    go false e = refl
+
+-- where the other lengths are right, the last one decides
+pub by-last-length : (head : ScanHead) (given : Lengths) → given .azimuths ≡ head .rays → given .values ≡ gatesOf head → given .qualities ≡ gatesOf head → given .ledger ≡ gatesOf head → given .counts ≡ cellsOf head → given .«quality_sums» ≡ cellsOf head → given .«value_sums» ≡ cellsOf head → given .means ≡ cellsOf head → eqb (given .«cell_qualities») (cellsOf head) ≡ lengthsAccepted head given
+unfolding lengthsAccepted
+by-last-length head given azimuths values qualities ledger counts quality-sums value-sums means =
+    simp (eq-eqb _ _ azimuths, eq-eqb _ _ values, eq-eqb _ _ qualities, eq-eqb _ _ ledger, eq-eqb _ _ counts, eq-eqb _ _ quality-sums, eq-eqb _ _ value-sums, eq-eqb _ _ means)
+
+-- ---- the whole scan
+
+-- where no number is given, the first test passes and the other tests give none
+passed : (b : Bool) (n rest : ℕ) → cond b rest (suc n) ≡ 0 → (b ≡ true) × (rest ≡ 0)
+passed true n rest e = (refl, e)
+passed false n rest e = absurd (omega arith)
+
+pub accepted-scan : (head : ScanHead) (azimuths values qualities ledger counts qualitySums valueSums means cellQualities : List ℕ) → refusalFor head azimuths values qualities ledger counts qualitySums valueSums means cellQualities ≡ 0 → AcceptedScan head azimuths values qualities ledger counts qualitySums valueSums means cellQualities
+unfolding refusalFor scanRefusal firstRefusal
+accepted-scan head azimuths values qualities ledger counts qualitySums valueSums means cellQualities e =
+    let rays = passed _ 0 _ e in
+    let gates = passed _ 1 _ (rays .1) in
+    let centres = passed _ 2 _ (gates .1) in
+    let site = passed _ 3 _ (centres .1) in
+    let grid = passed _ 4 _ (site .1) in
+    let lengths = passed _ 5 _ (grid .1) in
+    let azimuths-tested = passed _ 6 _ (lengths .1) in
+    let qualities-tested = passed _ 7 _ (azimuths-tested .1) in
+    let gates-bounds = range-bounds 1 1000 (head .gates) (gates .0) in
+    let known = accepted-lengths head _ (lengths .0) in
+    record {
+      rays-most = range-bounds 1 720 (head .rays) (rays .0) .1;
+      gates-least = gates-bounds .0;
+      gates-most = gates-bounds .1;
+      centres = centres .0;
+      site = site .0;
+      grid = grid .0;
+      azimuths-length = known .azimuths-length;
+      values-length = known .values-length;
+      qualities-length = known .qualities-length;
+      ledger-length = known .ledger-length;
+      counts-length = known .counts-length;
+      quality-sums-length = known .quality-sums-length;
+      value-sums-length = known .value-sums-length;
+      means-length = known .means-length;
+      cell-qualities-length = known .cell-qualities-length;
+      azimuths-good = azimuths-tested .0;
+      qualities-good = qualities-tested .0;
+    }

@@ -1,0 +1,10 @@
+pub mod AcceptedScan
+pub mod ScanLedger
+pub mod TallyTurn
+pub mod TallyWidth
+pub mod TallySplit
+pub mod CountTotal
+pub mod MeanBetween
+pub mod PublishedRange
+pub mod AcceptedRemap
+pub mod ScanAnswer

@@ -1,0 +1,192 @@
+-- `remap::scan::scan_refusal` meets its contract: each number is the definition's first. Assumes nothing.
+use mathlib.Core.Path.{_≡_, sym, _∙_}
+use mathlib.Core.Bool.{true}
+use borrow.Author.Needs.{needs}
+use borrow.Author.Tests.{not-true, not-false}
+use Rattle.arithmetic.specs.Places.{allOf}
+use Rattle.placement.specs.Refusal.{inRange, azimuthAccepted, siteAccepted, gridAccepted, firstRefusal}
+use Rattle.placement.proofs.Accepted.{range-bounds}
+use Rattle.remap.specs.Scan.{centresAccepted, lengthsAccepted, qualityAccepted, scanRefusal}
+use Rattle.remap.proofs.scan.scan_refusal.Statement.{statement}
+use Rattle.remap.proofs.scan.scan_refusal.Tie as tie
+
+abbrev start-rays : tie.Else1 → tie.Start
+start-rays c = c .before .before .before .before
+
+abbrev start-gates : tie.Else2 → tie.Start
+start-gates c = start-rays (c .before .before)
+
+abbrev start-centres : tie.Else3 → tie.Start
+start-centres c = start-gates (c .before .before)
+
+abbrev start-site : tie.Else4 → tie.Start
+start-site c = start-centres (c .before .before .before)
+
+abbrev start-grid : tie.Else5 → tie.Start
+start-grid c = start-site (c .before .before)
+
+abbrev start-lengths : tie.Else6 → tie.Start
+start-lengths c = start-grid (c .before .before)
+
+abbrev start-azimuths : tie.Else7 → tie.Start
+start-azimuths c = start-lengths (c .before .before)
+
+abbrev start-qualities : tie.Else8 → tie.Start
+start-qualities c = start-azimuths (c .before .before)
+
+-- ---- each check, as the definition has it, where it passes
+
+rays-passed : (c : tie.Else1) → inRange 1 720 (start-rays c .args .head .rays) ≡ true
+rays-passed c = sym (c .before .in-range .ensures) ∙ not-false _ (c .if1 .left)
+
+gates-passed : (c : tie.Else2) → inRange 1 1000 (start-gates c .args .head .gates) ≡ true
+gates-passed c = sym (c .before .in-range2 .ensures) ∙ not-false _ (c .if2 .left)
+
+centres-passed : (c : tie.Else3) → centresAccepted (start-centres c .args .head .gates) (start-centres c .args .head .first) (start-centres c .args .head .spacing) ≡ true
+centres-passed c = sym (c .before .centres-accepted .ensures) ∙ not-false _ (c .if3 .left)
+
+site-passed : (c : tie.Else4) → siteAccepted (start-site c .args .head .site) ≡ true
+site-passed c = sym (c .before .site-accepted .ensures) ∙ not-false _ (c .if4 .left)
+
+grid-passed : (c : tie.Else5) → gridAccepted (start-grid c .args .head .grid) ≡ true
+grid-passed c = sym (c .before .grid-accepted .ensures) ∙ not-false _ (c .if5 .left)
+
+lengths-passed : (c : tie.Else6) → lengthsAccepted (start-lengths c .args .head) (start-lengths c .args .given) ≡ true
+lengths-passed c = sym (c .before .lengths-accepted .ensures) ∙ not-false _ (c .if6 .left)
+
+azimuths-passed : (c : tie.Else7) → allOf azimuthAccepted (start-azimuths c .args .azimuths .now) ≡ true
+azimuths-passed c = sym (c .before .azimuths-accepted .ensures) ∙ not-false _ (c .if7 .left)
+
+qualities-passed : (c : tie.Else8) → allOf qualityAccepted (start-qualities c .args .qualities .now) ≡ true
+qualities-passed c = sym (c .before .qualities-accepted .ensures) ∙ not-false _ (c .if8 .left)
+
+-- ---- the nine answers
+
+in-range-requires : tie.Need-in-range-requires
+in-range-requires c κs = search needs
+
+returns : tie.Need-returns
+unfolding scanRefusal firstRefusal
+returns c = simp (sym (c .before .in-range .ensures) ∙ not-true _ (c .if1 .taken))
+
+in-range-requires-2 : tie.Need-in-range-requires-2
+in-range-requires-2 c κs = search needs
+
+returns-2 : tie.Need-returns-2
+unfolding scanRefusal firstRefusal
+returns-2 c =
+    let first = c .before .before in
+    simp (rays-passed first, sym (c .before .in-range2 .ensures) ∙ not-true _ (c .if2 .taken))
+
+centres-accepted-requires : tie.Need-centres-accepted-requires
+centres-accepted-requires c κs = range-bounds 1 1000 _ (gates-passed c)
+
+returns-3 : tie.Need-returns-3
+unfolding scanRefusal firstRefusal
+returns-3 c =
+    let second = c .before .before in
+    let first = second .before .before in
+    simp (rays-passed first, gates-passed second, sym (c .before .centres-accepted .ensures) ∙ not-true _ (c .if3 .taken))
+
+site-accepted-requires : tie.Need-site-accepted-requires
+site-accepted-requires c κs = search needs
+
+returns-4 : tie.Need-returns-4
+unfolding scanRefusal firstRefusal
+returns-4 c =
+    let third = c .before .before .before in
+    let second = third .before .before in
+    let first = second .before .before in
+    simp (rays-passed first, gates-passed second, centres-passed third, sym (c .before .site-accepted .ensures) ∙ not-true _ (c .if4 .taken))
+
+grid-accepted-requires : tie.Need-grid-accepted-requires
+grid-accepted-requires c κs = search needs
+
+returns-5 : tie.Need-returns-5
+unfolding scanRefusal firstRefusal
+returns-5 c =
+    let fourth = c .before .before in
+    let third = fourth .before .before .before in
+    let second = third .before .before in
+    let first = second .before .before in
+    simp (rays-passed first, gates-passed second, centres-passed third, site-passed fourth, sym (c .before .grid-accepted .ensures) ∙ not-true _ (c .if5 .taken))
+
+lengths-accepted-requires : tie.Need-lengths-accepted-requires
+lengths-accepted-requires c κs =
+    let third = c .before .before .before .before .before in
+    let second = third .before .before in
+    let first = second .before .before in
+    (range-bounds 1 720 _ (rays-passed first) .1, range-bounds 1 1000 _ (gates-passed second) .1, grid-passed c)
+
+returns-6 : tie.Need-returns-6
+unfolding scanRefusal firstRefusal
+returns-6 c =
+    let fifth = c .before .before in
+    let fourth = fifth .before .before in
+    let third = fourth .before .before .before in
+    let second = third .before .before in
+    let first = second .before .before in
+    simp (rays-passed first, gates-passed second, centres-passed third, site-passed fourth, grid-passed fifth, sym (c .before .lengths-accepted .ensures) ∙ not-true _ (c .if6 .taken))
+
+azimuths-accepted-requires : tie.Need-azimuths-accepted-requires
+azimuths-accepted-requires c κs = search needs
+
+returns-7 : tie.Need-returns-7
+unfolding scanRefusal firstRefusal
+returns-7 c =
+    let sixth = c .before .before in
+    let fifth = sixth .before .before in
+    let fourth = fifth .before .before in
+    let third = fourth .before .before .before in
+    let second = third .before .before in
+    let first = second .before .before in
+    simp (rays-passed first, gates-passed second, centres-passed third, site-passed fourth, grid-passed fifth, lengths-passed sixth, sym (c .before .azimuths-accepted .ensures) ∙ not-true _ (c .if7 .taken))
+
+qualities-accepted-requires : tie.Need-qualities-accepted-requires
+qualities-accepted-requires c κs = search needs
+
+returns-8 : tie.Need-returns-8
+unfolding scanRefusal firstRefusal
+returns-8 c =
+    let seventh = c .before .before in
+    let sixth = seventh .before .before in
+    let fifth = sixth .before .before in
+    let fourth = fifth .before .before in
+    let third = fourth .before .before .before in
+    let second = third .before .before in
+    let first = second .before .before in
+    simp (rays-passed first, gates-passed second, centres-passed third, site-passed fourth, grid-passed fifth, lengths-passed sixth, azimuths-passed seventh, sym (c .before .qualities-accepted .ensures) ∙ not-true _ (c .if8 .taken))
+
+returns-9 : tie.Need-returns-9
+unfolding scanRefusal firstRefusal
+returns-9 c =
+    let seventh = c .before .before in
+    let sixth = seventh .before .before in
+    let fifth = sixth .before .before in
+    let fourth = fifth .before .before in
+    let third = fourth .before .before .before in
+    let second = third .before .before in
+    let first = second .before .before in
+    simp (rays-passed first, gates-passed second, centres-passed third, site-passed fourth, grid-passed fifth, lengths-passed sixth, azimuths-passed seventh, qualities-passed c)
+
+pub scan-refusal-spec : {M : Type 1} → statement M
+scan-refusal-spec =
+    tie.close
+    (tie.spec
+    in-range-requires
+    returns
+    in-range-requires-2
+    returns-2
+    centres-accepted-requires
+    returns-3
+    site-accepted-requires
+    returns-4
+    grid-accepted-requires
+    returns-5
+    lengths-accepted-requires
+    returns-6
+    azimuths-accepted-requires
+    returns-7
+    qualities-accepted-requires
+    returns-8
+    returns-9)

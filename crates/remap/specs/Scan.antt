@@ -1,0 +1,52 @@
+-- Document 01, "The scan" for what is allowed, "Refusal numbers" for the order of a scan's checks. Assumes nothing.
+use mathlib.Core.Bool.{Bool, _&&_}
+use mathlib.Core.List.{List, [], _∷_}
+use Prim.Native.Nat.{ℕ, _+_, _*_, _-_}
+use lib.Dec.{leb, eqb}
+use lib.ListN.{length}
+use Rattle.arithmetic.specs.Places.{allOf}
+use Rattle.placement.specs.Refusal.{inRange, azimuthAccepted, siteAccepted, gridAccepted, Check, _unless_, firstRefusal}
+use Rattle.placement.specs.Window.{windowOf}
+use Rattle.remap.specs.declared.scan.ScanHead.{ScanHead}
+use Rattle.remap.specs.declared.scan.Lengths.{Lengths}
+
+-- first centre 0 to 46,000,000, spacing 1 to 1,000,000, last centre at most 46,000,000
+unfoldable pub centresAccepted : ℕ → ℕ → ℕ → Bool
+centresAccepted gates first spacing =
+    leb first 46000000 && inRange 1 1000000 spacing && leb (first + (gates - 1) * spacing) 46000000
+
+unfoldable pub gatesOf : ScanHead → ℕ
+gatesOf head = head .rays * head .gates
+
+unfoldable pub cellsOf : ScanHead → ℕ
+cellsOf head = windowOf (head .grid) .columns * windowOf (head .grid) .rows
+
+-- the exact lengths: rays; rays x gates; columns x rows
+unfoldable pub lengthsAccepted : ScanHead → Lengths → Bool
+lengthsAccepted head given =
+    eqb (given .azimuths) (head .rays)
+    && eqb (given .values) (gatesOf head)
+    && eqb (given .qualities) (gatesOf head)
+    && eqb (given .ledger) (gatesOf head)
+    && eqb (given .counts) (cellsOf head)
+    && eqb (given .«quality_sums») (cellsOf head)
+    && eqb (given .«value_sums») (cellsOf head)
+    && eqb (given .means) (cellsOf head)
+    && eqb (given .«cell_qualities») (cellsOf head)
+
+unfoldable pub qualityAccepted : ℕ → Bool
+qualityAccepted quality = leb quality 100
+
+-- the lowest number that applies
+unfoldable pub scanRefusal : ScanHead → List ℕ → List ℕ → Lengths → ℕ
+scanRefusal head azimuths qualities given =
+    firstRefusal (
+    (1 unless inRange 1 720 (head .rays))
+    ∷ (2 unless inRange 1 1000 (head .gates))
+    ∷ (3 unless centresAccepted (head .gates) (head .first) (head .spacing))
+    ∷ (4 unless siteAccepted (head .site))
+    ∷ (5 unless gridAccepted (head .grid))
+    ∷ (6 unless lengthsAccepted head given)
+    ∷ (7 unless allOf azimuthAccepted azimuths)
+    ∷ (8 unless allOf qualityAccepted qualities)
+    ∷ [])

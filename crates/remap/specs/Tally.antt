@@ -1,0 +1,28 @@
+-- Document 01, "Ledger and cells": a cell's count and sums, over the measured gates whose ledger entry names it. Assumes nothing.
+use mathlib.Core.Bool.{Bool, _&&_, cond}
+use mathlib.Core.List.{List}
+use Prim.Native.Nat.{ℕ}
+use lib.Dec.{eqb}
+use lib.ListN.{length, getD}
+use Rattle.arithmetic.specs.Places.{sumTo}
+use Rattle.remap.specs.declared.gates.Weighting.{Weighting}
+use Rattle.remap.specs.Gates.{isMeasured, weighed}
+
+module _ (ledger values qualities : List ℕ) where
+  -- gate k is measured and its entry names the cell
+  unfoldable pub contributes : ℕ → ℕ → Bool
+  contributes cell k = eqb (getD ledger k 0) cell && isMeasured (getD values k 0)
+
+  -- the sum, over the first n gates that contribute to the cell, of what the share gives for value and quality
+  unfoldable pub sumOver : (ℕ → ℕ → ℕ) → ℕ → ℕ → ℕ
+  sumOver share n cell =
+      sumTo (λ k. cond (contributes cell k) (share (getD values k 0) (getD qualities k 0)) 0) n
+
+  unfoldable pub countOf : ℕ → ℕ
+  countOf cell = sumOver (λ value quality. 1) (length ledger) cell
+
+  unfoldable pub qualitySumOf : ℕ → ℕ
+  qualitySumOf cell = sumOver (λ value quality. quality) (length ledger) cell
+
+  unfoldable pub valueSumOf : Weighting → ℕ → ℕ
+  valueSumOf weighting cell = sumOver (weighed weighting) (length ledger) cell

@@ -1,0 +1,13 @@
+// A scan to its ledger, sums and cells.
+mod gates;
+mod ledger;
+mod publish;
+mod remap_scan;
+mod scan;
+mod tally;
+
+pub use gates::Weighting;
+pub use remap_scan::remap;
+pub use scan::Lengths;
+pub use scan::Remapped;
+pub use scan::ScanHead;
