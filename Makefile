@@ -1,5 +1,5 @@
-# make run: prove and run the program. make test: everything that is proved or compared.
-.PHONY: run test library
+# make run: prove and run the program. make test: everything that is proved or compared. make bench: times, as ratios.
+.PHONY: run test library bench
 
 run:
 	rt check sines
@@ -12,3 +12,9 @@ test:
 library:
 	rt staticlib uldrevin
 	gcc -shared -o target/libuldrevin.so -Wl,--whole-archive target/staticlib/libuldrevin.a -Wl,--no-whole-archive
+
+# Times of the whole scan, of the same gates one by one and of a plain program, from one run.
+bench:
+	rt staticlib uldrevin
+	rustc -O --edition 2021 tests/benchmark/benchmark.rs -L target/staticlib -l static=uldrevin -o target/benchmark
+	target/benchmark

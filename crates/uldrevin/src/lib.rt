@@ -1,5 +1,6 @@
 // What C, Rust and Python link: the proved functions under C names.
 pub mod gate;
+pub mod scan;
 
 ghost use mathlib.Core.Path.{_≡_};
 ghost use Rattle.sine.specs.Sine.{sineOf, cosineOf};

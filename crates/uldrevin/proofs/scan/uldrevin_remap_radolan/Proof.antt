@@ -1,0 +1,56 @@
+-- `uldrevin::scan::uldrevin_remap_radolan` meets its contract, which is that of `remap::remap`. Assumes nothing.
+use mathlib.Core.Path.{_≡_, ap, _∙_}
+use mir.Facts.{toZ-ofZ}
+use Rattle.uldrevin.specs.ScanNumbers.{numberOf, radolanHead}
+use Rattle.uldrevin.proofs.ScanNumber.{number-of-answer}
+use borrow.Author.Needs.{needs}
+use Rattle.uldrevin.proofs.scan.uldrevin_remap_radolan.Statement.{statement}
+use Rattle.uldrevin.proofs.scan.uldrevin_remap_radolan.Tie as tie
+
+weighting-of-requires : tie.Need-weighting-of-requires
+weighting-of-requires c κs = search needs
+
+remap-requires : tie.Need-remap-requires
+remap-requires c κs = search needs
+
+number-of-requires : tie.Need-number-of-requires
+number-of-requires c κs = search needs
+
+same-length : tie.Need-same-length
+same-length c = search needs
+
+same-length-2 : tie.Need-same-length-2
+same-length-2 c = search needs
+
+same-length-3 : tie.Need-same-length-3
+same-length-3 c = search needs
+
+same-length-4 : tie.Need-same-length-4
+same-length-4 c = search needs
+
+same-length-5 : tie.Need-same-length-5
+same-length-5 c = search needs
+
+same-length-6 : tie.Need-same-length-6
+same-length-6 c = search needs
+
+returns : tie.Need-returns
+unfolding radolanHead
+returns c = let f = c .before .before .before .before .before .before .before .before .before .before .before .before .before .before .before .before .before .before .before .before .before .before .before .before .before .before .before .before .before .before .fits in
+    let told = simp (toZ-ofZ, f .latitude, f .longitude, f .corner-x, f .corner-y, c .before .before .before .before .before .before .before .before .before .before .before .before .before .before .before .before .before .before .before .before .weighting-of .ensures) at (c .before .before .before .before .before .before .before .before .before .before .before .before .before .remap .ensures) in
+    (c .number-of .ensures ∙ ap numberOf (told .0) ∙ number-of-answer _, told .1)
+
+pub uldrevin-remap-radolan-spec : {M : Type 1} → statement M
+uldrevin-remap-radolan-spec =
+    tie.close
+    (tie.spec
+    weighting-of-requires
+    remap-requires
+    number-of-requires
+    same-length
+    same-length-2
+    same-length-3
+    same-length-4
+    same-length-5
+    same-length-6
+    returns)
