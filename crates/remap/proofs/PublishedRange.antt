@@ -5,29 +5,19 @@ use mathlib.Core.Path.{_≡_, refl}
 use Prim.Native.Nat.{ℕ, _*_, _/_, _≤_}
 use native.Mathlib.Nat.{div-le-of-le-mul, mul-comm}
 use native.Mathlib.Omega.{arith}
-use borrow.Author.Tests.{le-leb, eqb-false, not-true}
+use borrow.Author.Tests.{le-leb, eqb-false}
 use lib.Dec.{eqb, leb}
 use lib.ListN.{length, getD}
 use Rattle.arithmetic.proofs.Places.{sum-scale}
 use Rattle.arithmetic.proofs.Test.{and-true}
 use Rattle.remap.specs.declared.gates.Weighting.{Weighting}
-use Rattle.remap.specs.Gates.{isMeasured, echoOf}
+use Rattle.remap.specs.Gates.{isMeasured}
 use Rattle.remap.specs.Tally.{contributes, sumOver, countOf, qualitySumOf, valueSumOf}
 use Rattle.remap.specs.Publish.{meanOf, qualityOf, publishedMean, publishedQuality}
+use Rattle.remap.proofs.TallyWidth.{echo-most}
 use Rattle.remap.proofs.MeanBetween.{cellDivisor, cellMean, mean-most}
 
 -- ---- one gate
-
-measured-most : (value : ℕ) → value ≤ 65535 → isMeasured value ≡ true → echoOf value ≤ 65533
-unfolding isMeasured echoOf
-measured-most value h m = go (eqb value 65534) refl
-  where
-    go : (t : Bool) → eqb value 65534 ≡ t → cond t 0 value ≤ 65533
-    go true e = omega arith
-    go false e =
-        let echoes : value ≡ 65534 → ⊥ = eqb-false value 65534 e in
-        let measured : value ≡ 65535 → ⊥ = eqb-false value 65535 (not-true (eqb value 65535) m) in
-        omega arith
 
 quality-share : (contributing : Bool) (quality : ℕ) → quality ≤ 100 → cond contributing quality 0 ≤ 100 * cond contributing 1 0
 quality-share true quality h = omega arith
@@ -61,7 +51,7 @@ module _ (ledger values qualities : List ℕ) (cell : ℕ) where
   -- "With a zero divisor it is 65,535": with any other, values of 16 bits give a mean of at most 65,533
   pub mean-in-range : (weighting : Weighting) → ((k : ℕ) → getD values k 0 ≤ 65535) → (cellDivisor ledger values qualities weighting cell ≡ 0 → ⊥) → cellMean ledger values qualities weighting cell ≤ 65533
   mean-in-range weighting small =
-      mean-most ledger values qualities weighting cell 65533 (λ k p. measured-most (getD values k 0) (small k) (is-measured k (p .is-in-cell)))
+      mean-most ledger values qualities weighting cell 65533 (λ k p. echo-most (getD values k 0) (small k) (is-measured k (p .is-in-cell)))
 
   -- so the published mean is "floor(value sum / count), or floor(value sum / quality sum) by quality"
   pub mean-published : (weighting : Weighting) → ((k : ℕ) → getD values k 0 ≤ 65535) → publishedMean (valueSumOf ledger values qualities weighting cell) (cellDivisor ledger values qualities weighting cell) ≡ cellMean ledger values qualities weighting cell
