@@ -1,32 +1,32 @@
 -- Demand 3 for an accepted gate. Assumes nothing.
 use mathlib.Core.Bool.{Bool, true, false, cond}
-use Prim.Native.Nat.{ℕ}
+use Prim.Native.Nat.{ℕ, _*_, _≤_}
 use Rattle.placement.specs.declared.gate.Placement.the-variants.{Inside, Outside}
 use Rattle.placement.specs.declared.grid.Grid.{Grid}
 use Rattle.placement.specs.declared.position.Position.{Position}
 use Rattle.placement.specs.declared.position.Site.{Site}
-use Rattle.placement.specs.Nearness.{WithinExact, PositionWithin}
+use Rattle.placement.specs.Nearness.{positionError, WithinExact, PositionWithin}
 use Rattle.placement.specs.Position.{positionOf, positionBy}
 use Rattle.placement.specs.Sphere.{sphereOf}
 use Rattle.placement.specs.Window.{windowOf, inWindow, cellNumber, row, column, located}
 use Rattle.placement.proofs.GateTerms.{GoodGate, good-sphere}
 use Rattle.placement.proofs.PositionNear.{X-within, Y-within}
 
-module _ (site : Site) (grid : Grid) (azimuth range : ℕ) (G : GoodGate site azimuth range) where
-  pub position-within : WithinExact 50 site grid azimuth range (positionOf (sphereOf grid) site azimuth range .x) (positionOf (sphereOf grid) site azimuth range .y)
+module _ (site : Site) (grid : Grid) (azimuth range : ℕ) (G : GoodGate site azimuth range) (bound : ℕ) (reached : positionError ≤ bound * 100) where
+  pub position-within : WithinExact bound site grid azimuth range (positionOf (sphereOf grid) site azimuth range .x) (positionOf (sphereOf grid) site azimuth range .y)
   unfolding positionOf positionBy
   position-within = record {
-    x-within = X-within (sphereOf grid) site azimuth range (good-sphere grid) G;
-    y-within = Y-within (sphereOf grid) site azimuth range (good-sphere grid) G;
+    x-within = X-within (sphereOf grid) site azimuth range (good-sphere grid) G bound reached;
+    y-within = Y-within (sphereOf grid) site azimuth range (good-sphere grid) G bound reached;
   }
 
   -- in whichever cell it lies, or outside
-  by-test : (inside : Bool) (cell : ℕ) (at : Position) → WithinExact 50 site grid azimuth range (at .x) (at .y) → PositionWithin 50 site grid azimuth range (cond inside (Inside cell (at .x) (at .y)) (Outside (at .x) (at .y)))
+  by-test : (inside : Bool) (cell : ℕ) (at : Position) → WithinExact bound site grid azimuth range (at .x) (at .y) → PositionWithin bound site grid azimuth range (cond inside (Inside cell (at .x) (at .y)) (Outside (at .x) (at .y)))
   unfolding PositionWithin
   by-test true cell at h = h
   by-test false cell at h = h
 
-  pub located-within : PositionWithin 50 site grid azimuth range (located (windowOf grid) (positionOf (sphereOf grid) site azimuth range))
+  pub located-within : PositionWithin bound site grid azimuth range (located (windowOf grid) (positionOf (sphereOf grid) site azimuth range))
   unfolding located
   located-within =
       let window = windowOf grid in

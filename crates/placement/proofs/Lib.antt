@@ -9,4 +9,4 @@ pub mod PositionNear
 pub mod SurveyLimits
 pub mod OtherAnswers
 pub mod GateNear
-pub mod MarkedCases
+pub mod GateCases

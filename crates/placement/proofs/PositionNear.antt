@@ -10,7 +10,7 @@ use Rattle.arithmetic.specs.Fraction.{Fraction, whole, _⊕_}
 use Rattle.arithmetic.specs.Magnitude.{Magnitude}
 use Rattle.arithmetic.specs.Nearness.{Near, gap}
 use Rattle.arithmetic.proofs.Integer.{as-difference, same-difference, differences}
-use Rattle.arithmetic.proofs.Nearness.{near-whole, near-sum, near-opposite, near-product, near-floor}
+use Rattle.arithmetic.proofs.Nearness.{near-whole, near-sum, near-opposite, near-product, near-floor, near-weaken}
 use Rattle.arithmetic.proofs.Quotient.{near-quotient, divisor-fraction-positive}
 use Rattle.sine.specs.Tables.{Q}
 use Rattle.sine.proofs.SineNear.{sine-near, cosine-near}
@@ -107,17 +107,22 @@ module _ (sphere : Sphere) (site : Site) (azimuth range : ℕ) (H : GoodSphere s
   X-near : Near 1 positionError 1080809139 (X s a c (sphere .k)) (X* sphere site azimuth range)
   unfolding X X*
   X-near =
-      near-quotient {s = Q} 1359798925 (divisor s a c) (lit< tt) (lit< tt) (omega (arith, divisor-is .1))
-      (near-product (H .k-near) u-near) divisor-near
+      near-weaken positionError 1080809139
+      (near-quotient {s = Q} 1359798925 (divisor s a c) (lit< tt) (lit< tt) (omega (arith, divisor-is .1))
+      (near-product (H .k-near) u-near) divisor-near)
+      (lit≤ tt) (lit≤ tt)
 
   Y-near : Near 1 positionError 1080809139 (Y s a c (sphere .k)) (Y* sphere site azimuth range)
   unfolding Y Y*
   Y-near =
-      near-quotient {s = Q} 1359798925 (divisor s a c) (lit< tt) (lit< tt) (omega (arith, divisor-is .1))
-      (near-product (near-opposite (H .k-near)) v-near) divisor-near
+      near-weaken positionError 1080809139
+      (near-quotient {s = Q} 1359798925 (divisor s a c) (lit< tt) (lit< tt) (omega (arith, divisor-is .1))
+      (near-product (near-opposite (H .k-near)) v-near) divisor-near)
+      (lit≤ tt) (lit≤ tt)
 
-  pub X-within : Within 50 (X s a c (sphere .k)) (X* sphere site azimuth range)
-  X-within = near-within 50 (lit≤ tt) X-near
+  module _ (bound : ℕ) (reached : positionError ≤ bound * 100) where
+    pub X-within : Within bound (X s a c (sphere .k)) (X* sphere site azimuth range)
+    X-within = near-within bound reached X-near
 
-  pub Y-within : Within 50 (Y s a c (sphere .k)) (Y* sphere site azimuth range)
-  Y-within = near-within 50 (lit≤ tt) Y-near
+    pub Y-within : Within bound (Y s a c (sphere .k)) (Y* sphere site azimuth range)
+    Y-within = near-within bound reached Y-near

@@ -9,4 +9,4 @@ pub mod Refusal
 pub mod Gate
 pub mod Survey
 pub mod Nearness
-pub mod MarkedCases
+pub mod GateCases

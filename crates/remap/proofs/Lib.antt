@@ -8,3 +8,4 @@ pub mod MeanBetween
 pub mod PublishedRange
 pub mod AcceptedRemap
 pub mod ScanAnswer
+pub mod MarkedCases

@@ -5,3 +5,4 @@ pub mod TallyRoom
 pub mod Publish
 pub mod Remap
 pub mod ScanRoom
+pub mod MarkedCases

@@ -4,6 +4,7 @@ use mathlib.Core.Path.{_≡_, refl, sym, subst, _∙_}
 use mathlib.Core.Bool.{true, false}
 use borrow.Author.Needs.{needs}
 use borrow.Author.Tests.{not-true, not-false}
+use lib.Dec.{lit≤}
 use Rattle.placement.specs.Gate.{unlessRefused, placementOf}
 use Rattle.placement.specs.Nearness.{PositionWithin}
 use Rattle.placement.specs.Refusal.{rangeAccepted, siteAccepted, gridAccepted, azimuthAccepted, firstRefusal, gateRefusal}
@@ -77,8 +78,8 @@ returns-5 c =
     let s = c .before .before .before .before .before .before .before .before .before in
     let good = good-gate (s .args .site) (s .args .azimuth) (s .args .range) (range-passed (c .before .before .before .before .before .before .before)) (site-passed (c .before .before .before .before .before)) in (
       simp (range-passed (c .before .before .before .before .before .before .before), site-passed (c .before .before .before .before .before), grid-passed (c .before .before .before), azimuth-passed (c .before)) (c .accepted-place .ensures),
-      subst (PositionWithin 50 (s .args .site) (s .args .grid) (s .args .azimuth) (s .args .range)) (sym (c .accepted-place .ensures))
-          (located-within (s .args .site) (s .args .grid) (s .args .azimuth) (s .args .range) good),
+      subst (PositionWithin _ (s .args .site) (s .args .grid) (s .args .azimuth) (s .args .range)) (sym (c .accepted-place .ensures))
+          (located-within (s .args .site) (s .args .grid) (s .args .azimuth) (s .args .range) good _ (lit≤ tt)),
     )
 
 pub place-spec : {M : Type 1} → statement M

@@ -7,11 +7,11 @@ use lib.IntN.{pos, negsuc}
 use mir.Facts.{toZ-ofZ}
 use mir.Syntax.{w64}
 use mir.Val.{SFits}
-use Rattle.placement.specs.Refusal.{inSignedRange, gridAccepted}
+use Rattle.placement.specs.Refusal.{inRange, inSignedRange, gridAccepted}
 use Rattle.placement.proofs.refusal.radolan_accepted.Statement.{statement}
 use Rattle.placement.proofs.refusal.radolan_accepted.Tie as tie
 
--- what the tests of x and y say of the grid itself
+-- what the tests of x, y and side say of the grid itself
 x-tested : (c : tie.After-in-signed-range) → c .in-signed-range .result ≡ inSignedRange (negsuc 1999999999) (pos 2000000000) (c .before .before .args .g .x)
 x-tested c =
     let f : SFits w64 (c .before .before .args .g .x) = record { sfits = c .before .struct-told .given .0 .1 } in
@@ -21,6 +21,9 @@ y-tested : (c : tie.After-in-signed-range2) → c .in-signed-range2 .result ≡ 
 y-tested c =
     let f : SFits w64 (c .before .before .before .before .before .args .g .y) = record { sfits = c .before .struct-told2 .given .1 .0 .1 } in
     simp toZ-ofZ at (c .in-signed-range2 .ensures)
+
+side-tested : (c : tie.After-in-range) → c .in-range .result ≡ inRange 10000 10000000 (c .before .before .before .before .before .before .before .args .g .side)
+side-tested c = c .in-range .ensures
 
 -- x is accepted past the first test, and y past the second
 x-accepted : (c : tie.Else1) → inSignedRange (negsuc 1999999999) (pos 2000000000) (c .before .before .before .args .g .x) ≡ true
@@ -50,7 +53,7 @@ returns-3 : tie.Need-returns-3
 unfolding gridAccepted
 returns-3 c =
     let second = c .before .before in
-    simp (x-accepted (second .before .before .before), y-accepted second, sym (c .before .in-range .ensures) ∙ not-true _ (c .if3 .taken))
+    simp (x-accepted (second .before .before .before), y-accepted second, sym (side-tested (c .before)) ∙ not-true _ (c .if3 .taken))
 
 size-accepted-requires : tie.Need-size-accepted-requires
 size-accepted-requires c κs = search needs
@@ -60,7 +63,7 @@ unfolding gridAccepted
 returns-4 c =
     let third = c .before in
     let second = third .before .before in
-    simp (x-accepted (second .before .before .before), y-accepted second, sym (third .before .in-range .ensures) ∙ not-false _ (third .if3 .left)) (c .size-accepted .ensures)
+    simp (x-accepted (second .before .before .before), y-accepted second, sym (side-tested (third .before)) ∙ not-false _ (third .if3 .left)) (c .size-accepted .ensures)
 
 pub radolan-accepted-spec : {M : Type 1} → statement M
 radolan-accepted-spec =

@@ -1,6 +1,6 @@
--- Every case of the table holds. Assumes nothing.
+-- The cases of a single gate that evaluation alone does not settle: X on the central meridian and its column of the mesh. Assumes nothing.
 use mathlib.Core.Path.{_≡_, refl, ap, ap₂, _∙_}
-use Prim.Native.Nat.{ℕ, _/_}
+use Prim.Native.Nat.{ℕ}
 use native.Mathlib.Nat.{zero-div}
 use native.Mathlib.Omega.{arith}
 use lib.Dec.{lit<}
@@ -21,9 +21,8 @@ use Rattle.placement.specs.declared.position.RayTerms.{RayTerms}
 use Rattle.placement.specs.declared.position.Site.{Site}
 use Rattle.placement.specs.declared.position.SiteTerms.{SiteTerms}
 use Rattle.placement.specs.Arc.{d, d2, d3, d4, d5, sd, arcTerms}
-use Rattle.placement.specs.MarkedCases.{exampleGrid, anyRadolan, Holds, AllHold, gateCases}
-use Rattle.placement.specs.Position.{siteTerms, rayTerms, e, m, u, divisor, X, positionBy, positionOf}
-use Rattle.placement.specs.Refusal.{inRange, inSignedRange, rangeAccepted, azimuthAccepted, siteAccepted, sizeAccepted, gridAccepted, firstRefusal, gateRefusal}
+use Rattle.placement.specs.GateCases.{xIsZero, meshColumnOfZero, exampleGrid, anyRadolan, GateHolds, columnAt}
+use Rattle.placement.specs.Position.{siteTerms, e, m, u, divisor, X, positionBy, positionOf}
 use Rattle.placement.specs.Sphere.{sphereOf, radolanSphere, hrapSphere}
 use Rattle.placement.specs.Window.{windowOf, indexOf}
 
@@ -56,6 +55,24 @@ unfolding positionOf positionBy siteTerms arcTerms sphereOf radolanSphere hrapSp
 on-meridian (Radolan g) site azimuth h = x-zero _ _ _ _ refl (sine-of-no-angle _ (rw h))
 on-meridian (Hrap g) site azimuth h = x-zero _ _ _ _ refl (sine-of-no-angle _ (rw h))
 
+pub hrap-meridian : GateHolds (xIsZero exampleGrid (negsuc 1049999))
+unfolding GateHolds exampleGrid sphereOf hrapSphere
+hrap-meridian = on-meridian exampleGrid
+
+pub radolan-meridian : GateHolds (xIsZero anyRadolan (pos 100000))
+unfolding GateHolds anyRadolan sphereOf radolanSphere
+radolan-meridian = on-meridian anyRadolan
+
+-- ---- a column is rounded down, on either side of an edge
+
+pub west-of-edge : GateHolds (columnAt 100000 (negsuc 0) (negsuc 0))
+unfolding GateHolds indexOf
+west-of-edge = refl
+
+pub on-edge : GateHolds (columnAt 100000 (pos 0) (pos 0))
+unfolding GateHolds indexOf
+on-edge = refl
+
 -- ---- the mesh column of X = 0
 
 from-corner : (i : ℤ) → pos 0 -ℤ (i -ℤ pos 401) *ℤ pos 476250 ≡ (pos 401 -ℤ i) *ℤ pos 476250 +ℤ pos 0
@@ -67,7 +84,6 @@ back-to-mesh i = rw (as-difference i) (simp differences (same-difference _ _ _ _
 mesh-column : (i : ℤ) → i +ℤ (pos 0 -ℤ (i -ℤ pos 401) *ℤ pos 476250) ÷ 476250 ≡ pos 401
 mesh-column i = rw (from-corner i, floor-only (pos 401 -ℤ i) 476250 0 (lit< tt)) (back-to-mesh i)
 
-pub every-case : AllHold gateCases
-unfolding AllHold gateCases exampleGrid anyRadolan Holds indexOf windowOf gateRefusal firstRefusal rangeAccepted siteAccepted gridAccepted sizeAccepted azimuthAccepted inRange inSignedRange sphereOf hrapSphere radolanSphere
-every-case =
-    ((on-meridian exampleGrid), ((λ g. mesh-column (g .i)), ((on-meridian anyRadolan), (refl, (refl, (refl, (refl, (refl, (refl, (refl, (refl, (refl, (refl, (refl, (refl, tt)))))))))))))))
+pub mesh-column-of-zero : GateHolds (meshColumnOfZero (pos 401))
+unfolding GateHolds indexOf windowOf
+mesh-column-of-zero g = mesh-column (g .i)

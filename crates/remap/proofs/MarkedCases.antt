@@ -1,0 +1,56 @@
+-- Every case of the table holds. Assumes nothing.
+use mathlib.Core.List.{[], _∷_}
+use mathlib.Core.Path.{_≡_, refl}
+use Rattle.arithmetic.specs.Floor.{_modulo_}
+use Rattle.arithmetic.specs.Fraction.{_⊕_, opposite}
+use Rattle.arithmetic.specs.Nearness.{nearest}
+use Rattle.arithmetic.specs.Places.{table, sumTo, allOf}
+use Rattle.sine.specs.Quarters.{byQuarters, inTurn, inQuarter}
+use Rattle.sine.specs.Series.{arc, arcUnit, factorial, term, alternating, sineSeries, cosineSeries}
+use Rattle.sine.specs.Sine.{quarterSine, sineOf, cosineOf}
+use Rattle.sine.specs.Tables.{S, F, G}
+use Rattle.placement.specs.Arc.{d, d2, d3, d4, d5, sd, cd, arcTerms}
+use Rattle.placement.specs.Gate.{unlessRefused, placementOf, entryOf}
+use Rattle.placement.specs.GateCases.{exampleGrid, anyRadolan, GateHolds}
+use Rattle.placement.specs.Position.{siteTerms, rayTerms, w, e, n, m, u, v, divisor, X, Y, positionBy, positionOf}
+use Rattle.placement.specs.Refusal.{inRange, inSignedRange, rangeAccepted, azimuthAccepted, siteAccepted, sizeAccepted, gridAccepted, firstRefusal, gateRefusal}
+use Rattle.placement.specs.Sphere.{sphereOf, radolanSphere, hrapSphere}
+use Rattle.placement.specs.Window.{windowOf, indexOf, inSpan, cellNumber, column, row, inWindow, located}
+use Rattle.placement.proofs.GateCases.{hrap-meridian, radolan-meridian, mesh-column-of-zero, west-of-edge, on-edge}
+use Rattle.remap.specs.declared.gates.Weighting.{Weighting}
+use Rattle.remap.specs.declared.gates.Weighting.the-variants.{Plain, ByQuality}
+use Rattle.remap.specs.Gates.{isMeasured, echoOf, weighed}
+use Rattle.remap.specs.MarkedCases.{exampleHead, example, exampleAzimuths, exampleValues, exampleQualities, scanRefused, CellsHold, Holds, AllHold, markedCases}
+use Rattle.remap.specs.Publish.{meanOf, divisorOf, qualityOf}
+use Rattle.remap.specs.Remap.{entryAt, ledgerOf, countsOf, meansOf, cellQualitiesOf, afterwards}
+use Rattle.remap.specs.Scan.{centresAccepted, gatesOf, cellsOf, lengthsAccepted, qualityAccepted, scanRefusal}
+use Rattle.remap.specs.Tally.{contributes, sumOver, countOf, qualitySumOf, valueSumOf}
+
+-- both gates lie in cell 1
+example-ledger : (weighting : Weighting) → ledgerOf (example weighting) exampleAzimuths ≡ 1 ∷ 1 ∷ []
+unfolding ledgerOf entryAt gatesOf table example exampleHead exampleAzimuths exampleGrid entryOf placementOf unlessRefused gateRefusal firstRefusal rangeAccepted siteAccepted gridAccepted sizeAccepted azimuthAccepted inRange inSignedRange windowOf located inWindow inSpan cellNumber column row indexOf sphereOf hrapSphere positionOf positionBy siteTerms rayTerms arcTerms d d2 d3 d4 d5 sd cd w e n m u v divisor X Y cosineOf sineOf byQuarters inTurn inQuarter _modulo_ quarterSine S F G nearest sineSeries cosineSeries alternating term factorial arc arcUnit _⊕_ opposite
+example-ledger weighting = refl
+
+-- ---- the table
+
+infixr 5 _and_
+_and_ : {A B : Type 0} → A → B → A × B
+a and b = (a, b)
+
+pub every-case : AllHold markedCases
+unfolding AllHold markedCases Holds GateHolds CellsHold exampleGrid anyRadolan exampleHead example exampleAzimuths exampleValues exampleQualities scanRefused afterwards countsOf meansOf cellQualitiesOf table meanOf divisorOf qualityOf countOf qualitySumOf valueSumOf sumOver sumTo contributes isMeasured echoOf weighed scanRefusal centresAccepted gatesOf cellsOf lengthsAccepted qualityAccepted allOf gateRefusal firstRefusal rangeAccepted siteAccepted gridAccepted sizeAccepted azimuthAccepted inRange inSignedRange windowOf indexOf sphereOf hrapSphere radolanSphere
+every-case =
+    hrap-meridian and mesh-column-of-zero and radolan-meridian and west-of-edge and on-edge and refl and refl
+    and (λ before. rw (example-ledger Plain) refl)
+    and (λ before. rw (example-ledger ByQuality) refl)
+    and (λ before. rw (example-ledger ByQuality) refl)
+    and (λ before. rw (example-ledger ByQuality) refl)
+    and (λ before. rw (example-ledger ByQuality) refl)
+    and (λ before. rw (example-ledger ByQuality) refl)
+    and (λ before. rw (example-ledger Plain) refl)
+    and refl and refl and refl and refl
+    and refl and refl and refl and refl and refl and refl and refl and refl
+    and refl and refl and refl and refl
+    and refl
+    and refl
+    and tt
