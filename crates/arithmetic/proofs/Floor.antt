@@ -1,11 +1,11 @@
 -- Floor division with its remainder. Assumes nothing.
-use mathlib.Core.Path.{_≡_, refl, sym, _∙_, ap}
+use mathlib.Core.Path.{_≡_, sym, _∙_, ap}
 use Prim.Native.Nat.{ℕ, suc, _+_, _*_, _-_, _/_, _%_, _<_, _≤_}
 use native.Mathlib.Nat.{mod-lt, mod-eq-of-lt, div-add-mod', div-eq-of-lt-le, mul-add-mod-self-right}
 use native.Mathlib.Omega.{arith}
 use lib.IntN.{ℤ, pos, negsuc, _+ℤ_, _-ℤ_, _*ℤ_, natAbs}
 use Rattle.arithmetic.specs.Floor.{_÷_, _modulo_}
-use Rattle.arithmetic.proofs.Integer.{above, below, as-difference, same-difference, differences, is-sum}
+use Rattle.arithmetic.proofs.Integer.{as-difference, same-difference, differences}
 
 pub modulo-below : (z : ℤ) (m : ℕ) → 0 < m → z modulo m < m
 unfolding _modulo_

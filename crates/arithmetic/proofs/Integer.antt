@@ -6,7 +6,7 @@ use mathlib.Core.Bool.{Bool, true, false, not, cond}
 use Prim.Native.Nat.{ℕ, zero, suc, _+_, _*_, _-_, _<_, _≤_}
 use native.Mathlib.Omega.{arith}
 use lib.Dec.{T, ltb, ltb→lt, nltb→le}
-use lib.IntN.{ℤ, pos, negsuc, subℕ, _+ℤ_, _-ℤ_, _*ℤ_, negℤ}
+use lib.IntN.{ℤ, pos, negsuc, subℕ, _+ℤ_, _*ℤ_, negℤ}
 
 -- how far an integer is above 0, and how far below
 abbrev pub above : ℤ → ℕ

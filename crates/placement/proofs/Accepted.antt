@@ -1,6 +1,6 @@
 -- What is accepted, as bounds of its numbers. Assumes nothing.
 use mathlib.Core.Path.{_≡_, refl, sym, subst}
-use mathlib.Core.Bool.{Bool, true, false, _&&_}
+use mathlib.Core.Bool.{true, _&&_}
 use Prim.Native.Nat.{ℕ, suc, _+_, _*_, _≤_, suc-le-suc}
 use native.Mathlib.Nat.{le-refl}
 use borrow.Author.Tests.{leb-true}

@@ -1,6 +1,6 @@
 -- Columns, rows and cells. Assumes nothing.
-use mathlib.Core.Path.{_≡_, refl, sym, subst, ap₂}
-use mathlib.Core.Bool.{true, _&&_}
+use mathlib.Core.Path.{_≡_, refl, sym, subst}
+use mathlib.Core.Bool.{true}
 use Prim.Native.Nat.{ℕ, _<_, _≤_}
 use native.Mathlib.Omega.{arith}
 use borrow.Author.Tests.{ltb-true, lt-ltb}

@@ -1,6 +1,6 @@
 -- The ledger entry of every answer that is not inside: what the `else` of the ledger pass knows is the answer's tag. Assumes nothing.
 use mathlib.Core.Path.{_≡_, refl}
-use mathlib.Core.List.{List, [], _∷_}
+use mathlib.Core.List.{[], _∷_}
 use mathlib.Core.Logic.{⊎-elim}
 use native.Mathlib.Omega.{arith}
 use types.Run.{OneOf}

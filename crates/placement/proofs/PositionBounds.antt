@@ -1,22 +1,21 @@
 -- Bounds of the numbers of a position, from those of its eight terms: every product fits 64 bits, and the divisor is positive.
 -- Assumes nothing.
-use mathlib.Core.Path.{_≡_, refl, sym, _∙_, ap}
-use Prim.Native.Nat.{ℕ, _+_, _*_, _<_, _≤_}
+use mathlib.Core.Path.{_≡_}
+use Prim.Native.Nat.{ℕ, _<_, _≤_}
 use native.Mathlib.Nat.{le-refl}
 use native.Mathlib.Omega.{arith}
 use lib.Dec.{lit<, lit≤}
-use lib.IntN.{ℤ, pos, negℤ, natAbs, _+ℤ_, _*ℤ_}
+use lib.IntN.{ℤ, pos, _+ℤ_, _*ℤ_}
 use lib.Signed.{_≤ℤ_}
 use Rattle.arithmetic.specs.Magnitude.{Magnitude}
 use Rattle.arithmetic.proofs.Magnitude.{magnitude-sum, magnitude-difference, magnitude-product, magnitude-floor, magnitude-negation, natAbs-sum}
 use Rattle.arithmetic.proofs.Order.{at-least, at-least-sum, at-least-less, at-least-product, at-least-floor, pos-≤ℤ}
-use Rattle.sine.specs.Bounds.{sineLimit, leastLatitudeSine}
 use Rattle.sine.specs.Tables.{Q}
 use Rattle.placement.specs.declared.arc.ArcTerms.{ArcTerms}
 use Rattle.placement.specs.declared.position.RayTerms.{RayTerms}
 use Rattle.placement.specs.declared.position.SiteTerms.{SiteTerms}
 use Rattle.placement.specs.Position.{w, e, n, m, u, v, divisor, X, Y}
-use Rattle.placement.specs.Terms.{Sound, arcSineLimit, arcCosineLimit, leastArcCosine, kLimit}
+use Rattle.placement.specs.Terms.{Sound}
 
 -- the least divisor: Q, and what n is at least
 abbrev pub leastDivisor : ℕ

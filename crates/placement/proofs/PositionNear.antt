@@ -1,13 +1,12 @@
 -- Demand 3: X and Y are near the exact ones. Each line's numbers are the error, in hundredths of a unit, and the limit of the
 -- exact value; the last line's unit is the centimetre. Assumes nothing.
-use mathlib.Core.Path.{_≡_, subst, sym}
-use Prim.Native.Nat.{ℕ, _+_, _*_, _^_, _<_, _≤_}
+use mathlib.Core.Path.{_≡_, subst}
+use Prim.Native.Nat.{ℕ, _*_, _≤_}
 use native.Mathlib.Nat.{mul-le-mul-right}
 use native.Mathlib.Omega.{arith}
 use lib.Dec.{lit<, lit≤}
-use lib.IntN.{ℤ, pos, negℤ, natAbs, _+ℤ_, _-ℤ_, _*ℤ_}
-use Rattle.arithmetic.specs.Fraction.{Fraction, whole, _⊕_}
-use Rattle.arithmetic.specs.Magnitude.{Magnitude}
+use lib.IntN.{ℤ, pos, natAbs, _+ℤ_, _-ℤ_, _*ℤ_}
+use Rattle.arithmetic.specs.Fraction.{Fraction}
 use Rattle.arithmetic.specs.Nearness.{Near, gap}
 use Rattle.arithmetic.proofs.Integer.{as-difference, same-difference, differences}
 use Rattle.arithmetic.proofs.Nearness.{near-whole, near-sum, near-opposite, near-product, near-floor, near-weaken}
@@ -23,8 +22,6 @@ use Rattle.placement.specs.Arc.{arcTerms}
 use Rattle.placement.specs.ExactPosition.{w*, e*, n*, m*, u*, v*, divisor*, X*, Y*, sp*, cp*, sl*, cl*, sa*, ca*}
 use Rattle.placement.specs.Nearness.{Within, positionError}
 use Rattle.placement.specs.Position.{siteTerms, rayTerms, w, e, n, m, u, v, divisor, X, Y}
-use Rattle.placement.specs.Sphere.{exactK}
-use Rattle.placement.specs.Terms.{Sound}
 use Rattle.placement.proofs.ArcNear.{sd-near, cd-near}
 use Rattle.placement.proofs.GateTerms.{GoodSphere, GoodGate, sound}
 use Rattle.placement.proofs.PositionBounds.{leastDivisor, divisor-positive}

@@ -1,7 +1,7 @@
 -- Document 01, "Exact reference", line by line beside Position.antt: no floor, Q read as 1, sines by the series, K the exact
 -- product. A star marks an exact value. Assumes nothing.
 use Prim.Native.Nat.{ℕ}
-use lib.IntN.{ℤ, pos, _-ℤ_}
+use lib.IntN.{pos, _-ℤ_}
 use Rattle.arithmetic.specs.Fraction.{Fraction, whole, opposite, _⊕_, _⊖_, _⊗_, _⊘_}
 use Rattle.sine.specs.ExactSine.{exactSineOf, exactCosineOf}
 use Rattle.placement.specs.declared.grid.Sphere.{Sphere}

@@ -1,6 +1,6 @@
 -- Document 01, "Projection": the sphere of each kind of grid. Radius, central meridian and K go together. Assumes nothing.
 use Prim.Native.Nat.{ℕ, _*_, _^_}
-use lib.IntN.{ℤ, pos, negsuc}
+use lib.IntN.{pos, negsuc}
 use Rattle.arithmetic.specs.Fraction.{Fraction}
 use Rattle.placement.specs.declared.grid.Grid.{Grid}
 use Rattle.placement.specs.declared.grid.Grid.the-variants.{Radolan, Hrap}

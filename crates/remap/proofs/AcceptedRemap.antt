@@ -1,14 +1,14 @@
 -- What each step of an accepted scan needs, and that the steps' lists are document 01's. Assumes nothing.
 use mathlib.Core.Bool.{true, _&&_}
 use mathlib.Core.List.{List}
-use mathlib.Core.Path.{_≡_, refl, sym, ap, ap₂, _∙_}
-use Prim.Native.Nat.{ℕ, _+_, _*_, _-_, _/_, _%_, _<_, _≤_, zero-le}
+use mathlib.Core.Path.{_≡_, refl, sym, ap, _∙_}
+use Prim.Native.Nat.{ℕ, _+_, _*_, _-_, _/_, _%_, _<_, _≤_}
 use native.Mathlib.Nat.{mul-le-mul, mul-le-mul-right, mod-lt}
 use native.Mathlib.Omega.{arith}
 use borrow.Author.Tests.{leb-true, le-leb}
 use lib.Dec.{leb}
 use lib.ListN.{length, getD}
-use Rattle.arithmetic.specs.Places.{table, allOf}
+use Rattle.arithmetic.specs.Places.{table}
 use Rattle.arithmetic.proofs.Places.{table-length, table-at, table-ext, all-at}
 use Rattle.arithmetic.proofs.Test.{and-true}
 use Rattle.placement.specs.Gate.{placementOf, unlessRefused, entryOf}

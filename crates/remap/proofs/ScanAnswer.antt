@@ -1,6 +1,6 @@
 -- A refusal leaves each lent list as it came in; otherwise each holds what document 01 gives it. Assumes nothing.
 use mathlib.Core.List.{List}
-use mathlib.Core.Path.{_≡_, refl, _∙_}
+use mathlib.Core.Path.{_≡_, refl}
 use Prim.Native.Nat.{ℕ, zero, suc}
 use Rattle.remap.specs.declared.scan.Remapped.the-variants.{Done, Refused}
 use Rattle.remap.specs.Remap.{answerOf, afterwards}

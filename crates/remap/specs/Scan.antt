@@ -3,9 +3,8 @@ use mathlib.Core.Bool.{Bool, _&&_}
 use mathlib.Core.List.{List, [], _∷_}
 use Prim.Native.Nat.{ℕ, _+_, _*_, _-_}
 use lib.Dec.{leb, eqb}
-use lib.ListN.{length}
 use Rattle.arithmetic.specs.Places.{allOf}
-use Rattle.placement.specs.Refusal.{inRange, azimuthAccepted, siteAccepted, gridAccepted, Check, _unless_, firstRefusal}
+use Rattle.placement.specs.Refusal.{inRange, azimuthAccepted, siteAccepted, gridAccepted, _unless_, firstRefusal}
 use Rattle.placement.specs.Window.{windowOf}
 use Rattle.remap.specs.declared.scan.ScanHead.{ScanHead}
 use Rattle.remap.specs.declared.scan.Lengths.{Lengths}

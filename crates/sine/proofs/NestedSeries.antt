@@ -1,6 +1,6 @@
 -- The two series by nesting, x^n/n! (1 - x^2/((n+1)(n+2)) (1 - ..)): the same values in smaller numbers, for the tests of the
 -- tables. Assumes nothing.
-use mathlib.Core.Path.{_≡_, refl, sym, _∙_, ap, ap₂}
+use mathlib.Core.Path.{_≡_, ap₂}
 use Prim.Native.Nat.{ℕ, zero, suc, _+_, _*_, _^_, _<_}
 use native.Mathlib.Nat.{one-le-pow, pow-suc}
 use native.Mathlib.Numerals.{add-two}
@@ -11,7 +11,7 @@ use Rattle.arithmetic.specs.Fraction.{Fraction, _⊕_, _⊖_, _⊗_, opposite, 
 use Rattle.arithmetic.proofs.Integer.{as-difference, same-difference, differences, product-assoc}
 use Rattle.arithmetic.proofs.Nearness.{positive-product}
 use Rattle.arithmetic.proofs.Value.{SameValue, same-value-trans, same-value-difference}
-use Rattle.sine.specs.Series.{arc, arcUnit, factorial, term, alternating, sineSeries, cosineSeries}
+use Rattle.sine.specs.Series.{arc, arcUnit, factorial, term, alternating}
 
 -- x^2/((n+1)(n+2)), by which a term differs from the next
 unfoldable pub ratio : ℕ → ℕ → Fraction

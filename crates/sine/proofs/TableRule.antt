@@ -1,6 +1,6 @@
 -- The rule of the three tables, at every entry: each definition's whole table is tested once, by computing. Assumes nothing.
 use mathlib.Core.Bool.{Bool, cond}
-use Prim.Native.Nat.{ℕ, _*_, _<_, _≤_}
+use Prim.Native.Nat.{ℕ, _*_, _<_}
 use lib.Dec.{T, leb}
 use Rattle.arithmetic.specs.Nearness.{Nearest}
 use Rattle.arithmetic.proofs.Nearest.{nearest-rule}

@@ -1,6 +1,6 @@
 -- The test of a table's entry, by the nested series, and what a passed test says of the series itself. Assumes nothing.
 use mathlib.Core.Path.{_≡_, refl, sym, subst}
-use mathlib.Core.Bool.{Bool, true, false}
+use mathlib.Core.Bool.{Bool, false}
 use mathlib.Core.List.{List}
 use Prim.Native.Nat.{ℕ, _*_, _<_, _≤_}
 use lib.Dec.{T, leb, ltb, leb→le, ltb→lt}

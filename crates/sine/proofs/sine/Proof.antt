@@ -1,5 +1,5 @@
 -- `sine::sine` meets its contract. Assumes nothing.
-use mathlib.Core.Path.{_≡_, ap, _∙_}
+use mathlib.Core.Path.{ap, _∙_}
 use borrow.Author.Needs.{needs}
 use lib.IntN.{negℤ}
 use mir.Facts.{toZ-ofZ}

@@ -1,5 +1,5 @@
 -- `placement::arc::arc_terms` meets its contract: no product leaves 64 bits, no difference goes below 0. Assumes nothing.
-use mathlib.Core.Path.{_≡_, sym, ap₂, _∙_}
+use mathlib.Core.Path.{sym, ap₂, _∙_}
 use Prim.Native.Nat.{_≤_}
 use native.Mathlib.Nat.{mul-le-mul}
 use borrow.Author.Needs.{needs}

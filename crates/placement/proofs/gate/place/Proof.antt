@@ -1,6 +1,6 @@
 -- `placement::gate::place` meets its contract: each refusal is the definition's first, and an accepted gate's position is near the
 -- exact one. Assumes nothing.
-use mathlib.Core.Path.{_≡_, refl, sym, subst, _∙_}
+use mathlib.Core.Path.{_≡_, sym, subst, _∙_}
 use mathlib.Core.Bool.{true, false}
 use borrow.Author.Needs.{needs}
 use borrow.Author.Tests.{not-true, not-false}

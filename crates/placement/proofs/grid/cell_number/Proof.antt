@@ -1,10 +1,9 @@
 -- `placement::grid::cell_number` meets its contract: column and row are small natural numbers. Assumes nothing.
-use mathlib.Core.Path.{_≡_, refl}
+use mathlib.Core.Path.{_≡_}
 use Prim.Native.Nat.{_*_, _<_, _≤_}
 use native.Mathlib.Nat.{mul-le-mul, le-pred-of-lt}
 use native.Mathlib.Omega.{arith}
 use lib.IntN.{pos, natAbs}
-use mir.Facts.{toZ-ofZ}
 use mir.Syntax.{w64}
 use mir.Val.{toZ, ofZ}
 use Rattle.arithmetic.proofs.Machine.{read-back}

@@ -1,5 +1,4 @@
 -- `placement::grid::index_of` meets its contract. Assumes nothing.
-use mathlib.Core.Path.{_∙_}
 use borrow.Author.Needs.{needs}
 use mir.Facts.{toZ-ofZ}
 use Rattle.arithmetic.proofs.Machine.{fits64, fits64-floor, read-back}

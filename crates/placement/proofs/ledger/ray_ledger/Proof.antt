@@ -1,17 +1,15 @@
 -- `placement::ledger::ray_ledger` meets its contract. The loop's invariant: the places from start up to k hold their entries, and
 -- the others what they held. Assumes nothing.
 use mathlib.Core.Path.{_≡_, sym, ap, _∙_}
-use Prim.Native.Nat.{ℕ, _+_, _*_, _-_, _≤_, _<_}
+use Prim.Native.Nat.{_+_, _*_, _-_, _≤_}
 use native.Mathlib.Nat.{le-antisymm}
 use native.Mathlib.Omega.{arith}
 use borrow.Author.Needs.{needs, scaled-fits}
 use lib.ListN.{length}
 use Rattle.arithmetic.specs.Places.{Written}
 use Rattle.arithmetic.proofs.Places.{written-none, written-more, written-up-to}
-use Rattle.placement.specs.declared.survey.Survey.{Survey}
 use Rattle.placement.specs.Gate.{entryOf}
-use Rattle.placement.specs.Position.{rayTerms}
-use Rattle.placement.specs.Survey.{surveyed, surveyedEntry}
+use Rattle.placement.specs.Survey.{surveyedEntry}
 use Rattle.placement.proofs.GateTerms.{ray-limits}
 use Rattle.placement.proofs.OtherAnswers.{not-inside}
 use Rattle.placement.proofs.ledger.ray_ledger.Statement.{statement}

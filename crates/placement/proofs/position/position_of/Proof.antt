@@ -1,20 +1,18 @@
 -- `placement::position::position_of` meets its contract, line by line of document 01. Assumes nothing.
-use mathlib.Core.Path.{_≡_, ap, ap₂, _∙_}
-use Prim.Native.Nat.{ℕ, _<_}
+use mathlib.Core.Path.{_≡_, ap₂}
+use Prim.Native.Nat.{ℕ}
 use native.Mathlib.Omega.{arith}
 use lib.Dec.{T, leb, leb→le}
-use lib.IntN.{ℤ, pos, negℤ, natAbs, _+ℤ_, _-ℤ_, _*ℤ_, +ℤ-idl}
+use lib.IntN.{ℤ, pos, negℤ, _+ℤ_, _-ℤ_, +ℤ-idl}
 use mir.Facts.{toZ-ofZ}
 use mir.Syntax.{w64}
-use mir.Val.{SFits, toZ, ofZ}
-use Rattle.arithmetic.specs.Floor.{_÷_}
+use mir.Val.{toZ, ofZ}
 use Rattle.arithmetic.specs.Magnitude.{Magnitude}
 use Rattle.arithmetic.proofs.Machine.{fits64, fits64-floor, fits-unsigned, fits-natural, read-back}
 use Rattle.arithmetic.proofs.Magnitude.{magnitude-weaken, magnitude-product, magnitude-negation}
 use Rattle.sine.specs.Tables.{Q}
 use Rattle.placement.specs.declared.position.Position.{Position}
 use Rattle.placement.specs.Position.{w, e, n, m, u, v, divisor, X, Y, positionBy}
-use Rattle.placement.specs.Terms.{Sound}
 use Rattle.placement.proofs.PositionBounds.{w-limit, e-limit, n-limit, m-limit, u-limit, v-limit, divisor-positive, divisor-most}
 use Rattle.placement.proofs.position.position_of.Statement.{statement}
 use Rattle.placement.proofs.position.position_of.Tie as tie

@@ -1,15 +1,12 @@
 -- `placement::position::site_terms` meets its contract. Assumes nothing.
-use mathlib.Core.Path.{_≡_, ap}
 use borrow.Author.Needs.{needs}
-use lib.IntN.{ℤ, _-ℤ_}
+use lib.IntN.{_-ℤ_}
 use mir.Facts.{toZ-ofZ}
 use mir.Syntax.{w64}
 use mir.Val.{SFits}
 use Rattle.arithmetic.proofs.Machine.{fits64, read-back}
 use Rattle.arithmetic.proofs.Magnitude.{magnitude-difference}
-use Rattle.sine.specs.Sine.{sineOf, cosineOf}
 use Rattle.sine.proofs.SineBounds.{sine-magnitude, cosine-magnitude}
-use Rattle.placement.specs.declared.position.SiteTerms.{SiteTerms}
 use Rattle.placement.specs.Position.{siteTerms}
 use Rattle.placement.proofs.position.site_terms.Statement.{statement}
 use Rattle.placement.proofs.position.site_terms.Tie as tie

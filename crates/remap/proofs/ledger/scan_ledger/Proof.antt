@@ -1,10 +1,9 @@
 -- `remap::ledger::scan_ledger` meets its contract. The loop's invariant: the gates of the rays done so far stand in the ledger, and
 -- the other places hold what they held. Assumes nothing.
-use mathlib.Core.Path.{_≡_, refl, sym, ap, _∙_}
-use Prim.Native.Nat.{ℕ, _+_, _*_, _-_, _≤_, _<_}
-use native.Mathlib.Nat.{le-antisymm}
+use mathlib.Core.Path.{_≡_}
+use Prim.Native.Nat.{_*_, _-_, _≤_}
 use native.Mathlib.Omega.{arith}
-use borrow.Author.Needs.{needs, scaled-fits}
+use borrow.Author.Needs.{scaled-fits}
 use lib.ListN.{length}
 use Rattle.arithmetic.specs.Places.{Written}
 use Rattle.arithmetic.proofs.Places.{written-none}

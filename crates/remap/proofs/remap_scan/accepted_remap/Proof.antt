@@ -3,7 +3,6 @@ use mathlib.Core.Path.{_≡_, _∙_}
 use Prim.Native.Nat.{ℕ, _≤_}
 use native.Mathlib.Omega.{arith}
 use lib.ListN.{getD}
-use Rattle.remap.specs.declared.scan.ScanHead.{ScanHead}
 use Rattle.remap.specs.Remap.{ledgerOf, countsOf, qualitySumsOf, valueSumsOf, meansOf, cellQualitiesOf}
 use Rattle.remap.proofs.AcceptedRemap.{is-surveyed, scan-span, ledger-is, tallied, counts-are, quality-sums-are, value-sums-are, means-room, cell-qualities-room, means-are, cell-qualities-are}
 use borrow.Author.Needs.{needs}

@@ -1,7 +1,7 @@
 -- `remap::remap_scan::remap` meets its contract: a refused scan leaves every list, an accepted one fills each. Assumes nothing.
 use mathlib.Core.Path.{_≡_, sym, _∙_}
 use Prim.Native.Nat.{ℕ}
-use Rattle.remap.specs.Remap.{refusalFor, answerOf}
+use Rattle.remap.specs.Remap.{refusalFor}
 use Rattle.remap.proofs.AcceptedScan.{accepted-scan}
 use Rattle.remap.proofs.ScanAnswer.{refused-answer, done-answer, kept, filled}
 use borrow.Author.Needs.{needs}

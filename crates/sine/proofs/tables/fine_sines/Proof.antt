@@ -1,5 +1,5 @@
 -- `sine::tables::fine_sines` meets its contract: each number of the code's table rounds Q times the series. Assumes nothing.
-use Prim.Native.Nat.{ℕ, _*_}
+use Prim.Native.Nat.{ℕ}
 use Rattle.sine.specs.Series.{sineSeries}
 use Rattle.sine.specs.Tables.{F}
 use Rattle.sine.proofs.TableTest.{rounds, tabulates}

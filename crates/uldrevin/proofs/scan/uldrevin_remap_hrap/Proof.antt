@@ -1,5 +1,5 @@
 -- `uldrevin::scan::uldrevin_remap_hrap` meets its contract, which is that of `remap::remap`. Assumes nothing.
-use mathlib.Core.Path.{_≡_, ap, _∙_}
+use mathlib.Core.Path.{ap, _∙_}
 use mir.Facts.{toZ-ofZ}
 use Rattle.uldrevin.specs.ScanNumbers.{numberOf, hrapHead}
 use Rattle.uldrevin.proofs.ScanNumber.{number-of-answer}

@@ -1,7 +1,6 @@
 -- `uldrevin::scan::weighting_of` meets its contract. Assumes nothing.
 use Rattle.uldrevin.specs.ScanNumbers.{weightingOf}
 use Rattle.uldrevin.proofs.ScanNumber.{by-quality}
-use borrow.Author.Needs.{needs}
 use Rattle.uldrevin.proofs.scan.weighting_of.Statement.{statement}
 use Rattle.uldrevin.proofs.scan.weighting_of.Tie as tie
 
