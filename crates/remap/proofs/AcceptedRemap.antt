@@ -116,15 +116,10 @@ module _ {head : ScanHead} {azimuths values qualities ledger counts qualitySums 
     unfolding valueSumsOf
     value-sums-length = rw value-sums-written (table-length _ (cellsOf head))
 
-    pub means-room : (length counts′ ≡ length means) × (length qualitySums′ ≡ length means) × (length valueSums′ ≡ length means)
-    means-room =
+    pub publish-room : (length counts′ ≡ length means) × (length qualitySums′ ≡ length means) × (length valueSums′ ≡ length means) × (length cellQualities ≡ length means)
+    publish-room =
         let m = sym (good .means-length) in
-        (counts-length ∙ m, quality-sums-length ∙ m, value-sums-length ∙ m)
-
-    pub cell-qualities-room : (length counts′ ≡ length cellQualities) × (length qualitySums′ ≡ length cellQualities)
-    cell-qualities-room =
-        let m = sym (good .cell-qualities-length) in
-        (counts-length ∙ m, quality-sums-length ∙ m)
+        (counts-length ∙ m, quality-sums-length ∙ m, value-sums-length ∙ m, good .cell-qualities-length ∙ m)
 
     pub means-are : ((k : ℕ) → getD values k 0 ≤ 65535) → table (λ c. publishedMean (getD valueSums′ c 0) (divisorOf (head .weighting) (getD counts′ c 0) (getD qualitySums′ c 0))) (length means) ≡ meansOf head azimuths values qualities
     unfolding meansOf valueSumsOf countsOf qualitySumsOf

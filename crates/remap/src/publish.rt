@@ -5,7 +5,24 @@ ghost use lib.ListN.{length, getD};
 ghost use Rattle.arithmetic.specs.Places.{table};
 ghost use Rattle.remap.specs.Publish.{divisorOf, publishedMean, publishedQuality};
 
-pub fn publish_means(
+// Means and qualities of all cells, of any counts and sums.
+pub fn publish(
+    weighting: Weighting,
+    counts: &[u32],
+    quality_sums: &[u32],
+    value_sums: &[u64],
+    means: &mut [u16],
+    cell_qualities: &mut [u8],
+)
+    requires { ⌜ (length (now counts) ≡ length (now means)) × (length (now «quality_sums») ≡ length (now means)) × (length (now «value_sums») ≡ length (now means)) × (length (now «cell_qualities») ≡ length (now means)) ⌝ }
+    ensures { λ _. ⌜ now (means .exit) ≡ table (λ c. publishedMean (getD (now («value_sums» .entry)) c 0) (divisorOf weighting (getD (now (counts .entry)) c 0) (getD (now («quality_sums» .entry)) c 0))) (length (now (means .entry))) ⌝ }
+    ensures { λ _. ⌜ now («cell_qualities» .exit) ≡ table (λ c. publishedQuality (getD (now («quality_sums» .entry)) c 0) (getD (now (counts .entry)) c 0)) (length (now («cell_qualities» .entry))) ⌝ }
+{
+    publish_means(weighting, counts, quality_sums, value_sums, means);
+    publish_qualities(counts, quality_sums, cell_qualities);
+}
+
+fn publish_means(
     weighting: Weighting,
     counts: &[u32],
     quality_sums: &[u32],
@@ -25,7 +42,7 @@ pub fn publish_means(
     }
 }
 
-pub fn publish_qualities(counts: &[u32], quality_sums: &[u32], cell_qualities: &mut [u8])
+fn publish_qualities(counts: &[u32], quality_sums: &[u32], cell_qualities: &mut [u8])
     requires { ⌜ (length (now counts) ≡ length (now «cell_qualities»)) × (length (now «quality_sums») ≡ length (now «cell_qualities»)) ⌝ }
     ensures { λ _. ⌜ now («cell_qualities» .exit) ≡ table (λ c. publishedQuality (getD (now («quality_sums» .entry)) c 0) (getD (now (counts .entry)) c 0)) (length (now («cell_qualities» .entry))) ⌝ }
 {

@@ -1,7 +1,6 @@
 // The whole scan: one scan, one site and one grid come in; out come the ledger, the cell sums and the published cells.
 use crate::ledger::scan_ledger;
-use crate::publish::publish_means;
-use crate::publish::publish_qualities;
+use crate::publish::publish;
 use crate::scan::Lengths;
 use crate::scan::Remapped;
 use crate::scan::ScanHead;
@@ -99,6 +98,12 @@ fn accepted_remap(
         quality_sums,
         value_sums,
     );
-    publish_means(weighting, counts, quality_sums, value_sums, means);
-    publish_qualities(counts, quality_sums, cell_qualities);
+    publish(
+        weighting,
+        counts,
+        quality_sums,
+        value_sums,
+        means,
+        cell_qualities,
+    );
 }

@@ -1,10 +1,10 @@
--- `remap::remap_scan::accepted_remap` meets its contract, step by step: survey, ledger, tally, means, qualities. Assumes nothing.
+-- `remap::remap_scan::accepted_remap` meets its contract, step by step: survey, ledger, tally, published cells. Assumes nothing.
 use mathlib.Core.Path.{_≡_, _∙_}
 use Prim.Native.Nat.{ℕ, _≤_}
 use native.Mathlib.Omega.{arith}
 use lib.ListN.{getD}
 use Rattle.remap.specs.Remap.{ledgerOf, countsOf, qualitySumsOf, valueSumsOf, meansOf, cellQualitiesOf}
-use Rattle.remap.proofs.AcceptedRemap.{is-surveyed, scan-span, ledger-is, tallied, counts-are, quality-sums-are, value-sums-are, means-room, cell-qualities-room, means-are, cell-qualities-are}
+use Rattle.remap.proofs.AcceptedRemap.{is-surveyed, scan-span, ledger-is, tallied, counts-are, quality-sums-are, value-sums-are, publish-room, means-are, cell-qualities-are}
 use borrow.Author.Needs.{needs}
 use Rattle.remap.proofs.remap_scan.accepted_remap.Statement.{statement}
 use Rattle.remap.proofs.remap_scan.accepted_remap.Tie as tie
@@ -40,21 +40,18 @@ value-sums-written c = c .tally .ensures .1 .1 ∙ value-sums-are (given-tally c
 value-most : (c : tie.After-tally) (k : ℕ) → getD (given-tally c .args .values .now) k 0 ≤ 65535
 value-most c k = omega (arith, at-survey (at-ledger c) .before .before .before .before .before .before .before .before .before .shared-slice-known2 .given k)
 
-abbrev at-tally : tie.After-publish-means → tie.After-tally
-at-tally c = c .before .before .before .before .before .before .before .before .before .before .before
+abbrev at-tally : tie.After-publish → tie.After-tally
+at-tally c = c .before .before .before .before .before .before .before .before .before .before .before .before
 
-means-written : (c : tie.After-publish-means) → c .publish-means .last .1 .1 .1 .1 .0 ≡ meansOf (given-tally (at-tally c) .args .head) (given-tally (at-tally c) .args .azimuths .now) (given-tally (at-tally c) .args .values .now) (given-tally (at-tally c) .args .qualities .now)
+means-written : (c : tie.After-publish) → c .publish .last .1 .1 .1 .1 .0 ≡ meansOf (given-tally (at-tally c) .args .head) (given-tally (at-tally c) .args .azimuths .now) (given-tally (at-tally c) .args .values .now) (given-tally (at-tally c) .args .qualities .now)
 means-written c =
     let t = at-tally c in
-    c .publish-means .ensures ∙ means-are (given-tally t .pre) (counts-written t) (quality-sums-written t) (value-sums-written t) (value-most t)
+    c .publish .ensures .0 ∙ means-are (given-tally t .pre) (counts-written t) (quality-sums-written t) (value-sums-written t) (value-most t)
 
-abbrev at-means : tie.After-publish-qualities → tie.After-publish-means
-at-means c = c .before .before .before .before .before .before
-
-cell-qualities-written : (c : tie.After-publish-qualities) → c .publish-qualities .last .1 .1 .0 ≡ cellQualitiesOf (given-tally (at-tally (at-means c)) .args .head) (given-tally (at-tally (at-means c)) .args .azimuths .now) (given-tally (at-tally (at-means c)) .args .values .now) (given-tally (at-tally (at-means c)) .args .qualities .now)
+cell-qualities-written : (c : tie.After-publish) → c .publish .last .1 .1 .1 .1 .1 .0 ≡ cellQualitiesOf (given-tally (at-tally c) .args .head) (given-tally (at-tally c) .args .azimuths .now) (given-tally (at-tally c) .args .values .now) (given-tally (at-tally c) .args .qualities .now)
 cell-qualities-written c =
-    let t = at-tally (at-means c) in
-    c .publish-qualities .ensures ∙ cell-qualities-are (given-tally t .pre) (counts-written t) (quality-sums-written t) (value-sums-written t)
+    let t = at-tally c in
+    c .publish .ensures .1 ∙ cell-qualities-are (given-tally t .pre) (counts-written t) (quality-sums-written t) (value-sums-written t)
 
 survey-of-requires : tie.Need-survey-of-requires
 survey-of-requires c κs = (c .before .before .before .before .before .before .before .before .before .before .pre .site, c .before .before .before .before .before .before .before .before .before .before .pre .grid)
@@ -65,11 +62,8 @@ scan-ledger-requires c κs = (rw (c .before .survey-of .ensures) (is-surveyed (c
 tally-requires : tie.Need-tally-requires
 tally-requires c κs = tallied (c .before .before .before .before .before .before .before .before .before .before .before .before .before .before .before .before .before .before .before .pre) (ledger-written (c .before .before .before .before .before .before))
 
-publish-means-requires : tie.Need-publish-means-requires
-publish-means-requires c κs = let t = c .before .before .before .before .before .before .before .before .before .before in means-room (c .before .before .before .before .before .before .before .before .before .before .before .before .before .before .before .before .before .before .before .before .before .before .before .before .before .before .before .before .before .before .pre) (counts-written t) (quality-sums-written t) (value-sums-written t)
-
-publish-qualities-requires : tie.Need-publish-qualities-requires
-publish-qualities-requires c κs = let t = at-tally (c .before .before .before .before .before) in cell-qualities-room (c .before .before .before .before .before .before .before .before .before .before .before .before .before .before .before .before .before .before .before .before .before .before .before .before .before .before .before .before .before .before .before .before .before .before .before .before .pre) (counts-written t) (quality-sums-written t) (value-sums-written t)
+publish-requires : tie.Need-publish-requires
+publish-requires c κs = let t = c .before .before .before .before .before .before .before .before .before .before .before in publish-room (c .before .before .before .before .before .before .before .before .before .before .before .before .before .before .before .before .before .before .before .before .before .before .before .before .before .before .before .before .before .before .before .pre) (counts-written t) (quality-sums-written t) (value-sums-written t)
 
 same-length : tie.Need-same-length
 same-length c = search needs
@@ -90,7 +84,7 @@ same-length-6 : tie.Need-same-length-6
 same-length-6 c = search needs
 
 returns : tie.Need-returns
-returns c = let q = c .before .before in let m = at-means q in let t = at-tally m in (ledger-written (at-ledger t), (counts-written t, (quality-sums-written t, (value-sums-written t, (means-written m, cell-qualities-written q)))))
+returns c = let p = c .before .before .before .before in let t = at-tally p in (ledger-written (at-ledger t), (counts-written t, (quality-sums-written t, (value-sums-written t, (means-written p, cell-qualities-written p)))))
 
 pub accepted-remap-spec : {M : Type 1} → statement M
 accepted-remap-spec =
@@ -99,8 +93,7 @@ accepted-remap-spec =
     survey-of-requires
     scan-ledger-requires
     tally-requires
-    publish-means-requires
-    publish-qualities-requires
+    publish-requires
     same-length
     same-length-2
     same-length-3
