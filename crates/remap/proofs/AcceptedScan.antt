@@ -16,7 +16,7 @@ use Rattle.placement.proofs.Accepted.{AcceptedSize, range-bounds, accepted-rado
 use Rattle.remap.specs.declared.scan.Lengths.{Lengths}
 use Rattle.remap.specs.declared.scan.ScanHead.{ScanHead}
 use Rattle.remap.specs.Remap.{refusalFor}
-use Rattle.remap.specs.Scan.{gatesOf, cellsOf, lengthsAccepted, scanRefusal}
+use Rattle.remap.specs.Scan.{gatesOf, cellsOf, listsAccepted, lengthsAccepted, scanRefusal, scanNumber}
 use Rattle.remap.specs.ScanRoom.{AcceptedScan}
 
 -- ---- the grid's cells
@@ -51,6 +51,34 @@ last-equal before a b e =
     let h = and-true before (eqb a b) e in
     (h .0, eqb-true a b (h .1))
 
+-- the three lists of a scan
+pub record AcceptedLists (head : ScanHead) (azimuths values qualities : ℕ) : Type 0 where
+  pub azimuths-length : azimuths ≡ head .rays
+  pub values-length : values ≡ gatesOf head
+  pub qualities-length : qualities ≡ gatesOf head
+
+pub accepted-lists : (head : ScanHead) (azimuths values qualities : ℕ) → listsAccepted head azimuths values qualities ≡ true → AcceptedLists head azimuths values qualities
+unfolding listsAccepted
+accepted-lists head azimuths values qualities e =
+    let last = last-equal _ qualities (gatesOf head) e in
+    let second = last-equal _ values (gatesOf head) (last .0) in
+    record {
+      azimuths-length = eqb-true azimuths (head .rays) (second .0);
+      values-length = second .1;
+      qualities-length = last .1;
+    }
+
+pub refused-lists : (head : ScanHead) (azimuths values qualities : ℕ) → (AcceptedLists head azimuths values qualities → ⊥) → false ≡ listsAccepted head azimuths values qualities
+refused-lists head azimuths values qualities wrong = go (listsAccepted head azimuths values qualities) refl
+  where
+    go : (t : Bool) → listsAccepted head azimuths values qualities ≡ t → false ≡ t
+    go true e = absurd (wrong (accepted-lists head azimuths values qualities e))
+    go false e = refl
+
+pub by-last-list : (head : ScanHead) (azimuths values qualities : ℕ) → azimuths ≡ head .rays → values ≡ gatesOf head → eqb qualities (gatesOf head) ≡ listsAccepted head azimuths values qualities
+unfolding listsAccepted
+by-last-list head azimuths values qualities a v = simp (eq-eqb _ _ a, eq-eqb _ _ v)
+
 pub accepted-lengths : (head : ScanHead) (given : Lengths) → lengthsAccepted head given ≡ true → AcceptedLengths head given
 unfolding lengthsAccepted
 accepted-lengths head given e =
@@ -60,12 +88,11 @@ accepted-lengths head given e =
     let quality-sums = last-equal _ (given .«quality_sums») (cellsOf head) (value-sums .0) in
     let counts = last-equal _ (given .counts) (cellsOf head) (quality-sums .0) in
     let ledger = last-equal _ (given .ledger) (gatesOf head) (counts .0) in
-    let qualities = last-equal _ (given .qualities) (gatesOf head) (ledger .0) in
-    let values = last-equal _ (given .values) (gatesOf head) (qualities .0) in
+    let lists = accepted-lists head (given .azimuths) (given .values) (given .qualities) (ledger .0) in
     record {
-      azimuths-length = eqb-true (given .azimuths) (head .rays) (values .0);
-      values-length = values .1;
-      qualities-length = qualities .1;
+      azimuths-length = lists .azimuths-length;
+      values-length = lists .values-length;
+      qualities-length = lists .qualities-length;
       ledger-length = ledger .1;
       counts-length = counts .1;
       quality-sums-length = quality-sums .1;
@@ -81,11 +108,15 @@ refused-lengths head given wrong = go (lengthsAccepted head given) refl
     go true e = absurd (wrong (accepted-lengths head given e))
     go false e = refl
 
--- where the other lengths are right, the last one decides
-pub by-last-length : (head : ScanHead) (given : Lengths) → given .azimuths ≡ head .rays → given .values ≡ gatesOf head → given .qualities ≡ gatesOf head → given .ledger ≡ gatesOf head → given .counts ≡ cellsOf head → given .«quality_sums» ≡ cellsOf head → given .«value_sums» ≡ cellsOf head → given .means ≡ cellsOf head → eqb (given .«cell_qualities») (cellsOf head) ≡ lengthsAccepted head given
+pub refused-by-lists : (head : ScanHead) (given : Lengths) → listsAccepted head (given .azimuths) (given .values) (given .qualities) ≡ false → false ≡ lengthsAccepted head given
 unfolding lengthsAccepted
-by-last-length head given azimuths values qualities ledger counts quality-sums value-sums means =
-    simp (eq-eqb _ _ azimuths, eq-eqb _ _ values, eq-eqb _ _ qualities, eq-eqb _ _ ledger, eq-eqb _ _ counts, eq-eqb _ _ quality-sums, eq-eqb _ _ value-sums, eq-eqb _ _ means)
+refused-by-lists head given e = simp e
+
+-- where the other lengths are right, the last one decides
+pub by-last-length : (head : ScanHead) (given : Lengths) → listsAccepted head (given .azimuths) (given .values) (given .qualities) ≡ true → given .ledger ≡ gatesOf head → given .counts ≡ cellsOf head → given .«quality_sums» ≡ cellsOf head → given .«value_sums» ≡ cellsOf head → given .means ≡ cellsOf head → eqb (given .«cell_qualities») (cellsOf head) ≡ lengthsAccepted head given
+unfolding lengthsAccepted
+by-last-length head given lists ledger counts quality-sums value-sums means =
+    simp (lists, eq-eqb _ _ ledger, eq-eqb _ _ counts, eq-eqb _ _ quality-sums, eq-eqb _ _ value-sums, eq-eqb _ _ means)
 
 -- ---- the whole scan
 
@@ -95,7 +126,7 @@ passed true n rest e = (refl, e)
 passed false n rest e = absurd (omega arith)
 
 pub accepted-scan : (head : ScanHead) (azimuths values qualities ledger counts qualitySums valueSums means cellQualities : List ℕ) → refusalFor head azimuths values qualities ledger counts qualitySums valueSums means cellQualities ≡ 0 → AcceptedScan head azimuths values qualities ledger counts qualitySums valueSums means cellQualities
-unfolding refusalFor scanRefusal firstRefusal
+unfolding refusalFor scanRefusal scanNumber firstRefusal
 accepted-scan head azimuths values qualities ledger counts qualitySums valueSums means cellQualities e =
     let rays = passed _ 0 _ e in
     let gates = passed _ 1 _ (rays .1) in

@@ -23,7 +23,7 @@ use Rattle.remap.specs.Gates.{isMeasured, echoOf, weighed}
 use Rattle.remap.specs.MarkedCases.{exampleHead, example, exampleAzimuths, exampleValues, exampleQualities, scanRefused, CellsHold, Holds, AllHold, markedCases}
 use Rattle.remap.specs.Publish.{meanOf, divisorOf, qualityOf}
 use Rattle.remap.specs.Remap.{entryAt, ledgerOf, countsOf, meansOf, cellQualitiesOf, afterwards}
-use Rattle.remap.specs.Scan.{centresAccepted, gatesOf, cellsOf, lengthsAccepted, qualityAccepted, scanRefusal}
+use Rattle.remap.specs.Scan.{centresAccepted, gatesOf, cellsOf, listsAccepted, lengthsAccepted, qualityAccepted, scanNumber, scanRefusal}
 use Rattle.remap.specs.Tally.{contributes, sumOver, countOf, qualitySumOf, valueSumOf}
 
 -- both gates lie in cell 1
@@ -38,7 +38,7 @@ _and_ : {A B : Type 0} → A → B → A × B
 a and b = (a, b)
 
 pub every-case : AllHold markedCases
-unfolding AllHold markedCases Holds GateHolds CellsHold exampleGrid anyRadolan exampleHead example exampleAzimuths exampleValues exampleQualities scanRefused afterwards countsOf meansOf cellQualitiesOf table meanOf divisorOf qualityOf countOf qualitySumOf valueSumOf sumOver sumTo contributes isMeasured echoOf weighed scanRefusal centresAccepted gatesOf cellsOf lengthsAccepted qualityAccepted allOf gateRefusal firstRefusal rangeAccepted siteAccepted gridAccepted sizeAccepted azimuthAccepted inRange inSignedRange windowOf indexOf sphereOf hrapSphere radolanSphere
+unfolding AllHold markedCases Holds GateHolds CellsHold exampleGrid anyRadolan exampleHead example exampleAzimuths exampleValues exampleQualities scanRefused afterwards countsOf meansOf cellQualitiesOf table meanOf divisorOf qualityOf countOf qualitySumOf valueSumOf sumOver sumTo contributes isMeasured echoOf weighed scanRefusal scanNumber centresAccepted gatesOf cellsOf lengthsAccepted listsAccepted qualityAccepted allOf gateRefusal firstRefusal rangeAccepted siteAccepted gridAccepted sizeAccepted azimuthAccepted inRange inSignedRange windowOf indexOf sphereOf hrapSphere radolanSphere
 every-case =
     hrap-meridian and mesh-column-of-zero and radolan-meridian and west-of-edge and on-edge and refl and refl
     and (λ before. rw (example-ledger Plain) refl)

@@ -20,12 +20,15 @@ gatesOf head = head .rays * head .gates
 unfoldable pub cellsOf : ScanHead → ℕ
 cellsOf head = windowOf (head .grid) .columns * windowOf (head .grid) .rows
 
--- the exact lengths: rays; rays x gates; columns x rows
+-- the exact lengths: rays; rays x gates
+unfoldable pub listsAccepted : ScanHead → ℕ → ℕ → ℕ → Bool
+listsAccepted head azimuths values qualities =
+    eqb azimuths (head .rays) && eqb values (gatesOf head) && eqb qualities (gatesOf head)
+
+-- those of all lists: the ledger rays x gates too; each cell list columns x rows
 unfoldable pub lengthsAccepted : ScanHead → Lengths → Bool
 lengthsAccepted head given =
-    eqb (given .azimuths) (head .rays)
-    && eqb (given .values) (gatesOf head)
-    && eqb (given .qualities) (gatesOf head)
+    listsAccepted head (given .azimuths) (given .values) (given .qualities)
     && eqb (given .ledger) (gatesOf head)
     && eqb (given .counts) (cellsOf head)
     && eqb (given .«quality_sums») (cellsOf head)
@@ -36,16 +39,20 @@ lengthsAccepted head given =
 unfoldable pub qualityAccepted : ℕ → Bool
 qualityAccepted quality = leb quality 100
 
--- the lowest number that applies
-unfoldable pub scanRefusal : ScanHead → List ℕ → List ℕ → Lengths → ℕ
-scanRefusal head azimuths qualities given =
+-- the lowest number that applies: of the numbers, of the lists' lengths, of the azimuths and of the qualities
+unfoldable pub scanNumber : ScanHead → Bool → Bool → Bool → ℕ
+scanNumber head lengths azimuths qualities =
     firstRefusal (
     (1 unless inRange 1 720 (head .rays))
     ∷ (2 unless inRange 1 1000 (head .gates))
     ∷ (3 unless centresAccepted (head .gates) (head .first) (head .spacing))
     ∷ (4 unless siteAccepted (head .site))
     ∷ (5 unless gridAccepted (head .grid))
-    ∷ (6 unless lengthsAccepted head given)
-    ∷ (7 unless allOf azimuthAccepted azimuths)
-    ∷ (8 unless allOf qualityAccepted qualities)
+    ∷ (6 unless lengths)
+    ∷ (7 unless azimuths)
+    ∷ (8 unless qualities)
     ∷ [])
+
+unfoldable pub scanRefusal : ScanHead → List ℕ → List ℕ → Lengths → ℕ
+scanRefusal head azimuths qualities given =
+    scanNumber head (lengthsAccepted head given) (allOf azimuthAccepted azimuths) (allOf qualityAccepted qualities)

@@ -11,3 +11,8 @@ pub use remap_scan::remap;
 pub use scan::Lengths;
 pub use scan::Remapped;
 pub use scan::ScanHead;
+pub use scan::azimuths_accepted;
+pub use scan::gates_of;
+pub use scan::lists_accepted;
+pub use scan::qualities_accepted;
+pub use scan::scan_refusal;

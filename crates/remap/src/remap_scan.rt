@@ -4,6 +4,9 @@ use crate::publish::publish;
 use crate::scan::Lengths;
 use crate::scan::Remapped;
 use crate::scan::ScanHead;
+use crate::scan::azimuths_accepted;
+use crate::scan::lengths_accepted;
+use crate::scan::qualities_accepted;
 use crate::scan::scan_refusal;
 use crate::tally::tally;
 ghost use mathlib.Core.Path.{_≡_};
@@ -37,7 +40,13 @@ pub fn remap(
         means: means.len(),
         cell_qualities: cell_qualities.len(),
     };
-    let number = scan_refusal(head, azimuths, qualities, given);
+    let lengths = lengths_accepted(head, given);
+    let number = scan_refusal(
+        head,
+        lengths,
+        azimuths_accepted(azimuths),
+        qualities_accepted(qualities),
+    );
     if number != 0 {
         return Remapped::Refused(number);
     }

@@ -3,11 +3,10 @@ use crate::gates::Weighting;
 use placement::Grid;
 use placement::Site;
 ghost use mathlib.Core.Path.{_≡_};
-ghost use mathlib.Core.Bool.{true};
-ghost use Prim.Native.Nat.{_≤_};
+ghost use Prim.Native.Nat.{_≤_, _*_};
 ghost use Rattle.arithmetic.specs.Places.{allOf};
-ghost use Rattle.placement.specs.Refusal.{azimuthAccepted, gridAccepted};
-ghost use Rattle.remap.specs.Scan.{centresAccepted, cellsOf, lengthsAccepted, qualityAccepted, scanRefusal};
+ghost use Rattle.placement.specs.Refusal.{azimuthAccepted};
+ghost use Rattle.remap.specs.Scan.{centresAccepted, gatesOf, cellsOf, listsAccepted, lengthsAccepted, qualityAccepted, scanNumber};
 
 // What a scan is besides its lists.
 pub struct ScanHead {
@@ -38,9 +37,9 @@ pub enum Remapped {
     Refused(u32),
 }
 
-// The lowest refusal number of 1 to 8 that applies, or 0.
-pub fn scan_refusal(head: ScanHead, azimuths: &[u32], qualities: &[u8], given: Lengths) -> u32
-    ensures { λ r. ⌜ r ≡ scanRefusal head (now (azimuths .entry)) (now (qualities .entry)) given ⌝ }
+// The lowest refusal number of 1 to 8 that applies, or 0: of the numbers, of the lists' lengths, of the azimuths and of the qualities.
+pub fn scan_refusal(head: ScanHead, lengths: bool, azimuths: bool, qualities: bool) -> u32
+    ensures { λ r. ⌜ r ≡ scanNumber head lengths azimuths qualities ⌝ }
 {
     if !placement::in_range(1, 720, head.rays) {
         return 1;
@@ -59,13 +58,13 @@ pub fn scan_refusal(head: ScanHead, azimuths: &[u32], qualities: &[u8], given: L
     if !placement::grid_accepted(grid) {
         return 5;
     }
-    if !lengths_accepted(head, given) {
+    if !lengths {
         return 6;
     }
-    if !azimuths_accepted(azimuths) {
+    if !azimuths {
         return 7;
     }
-    if !qualities_accepted(qualities) {
+    if !qualities {
         return 8;
     }
     0
@@ -84,30 +83,51 @@ fn centres_accepted(gates: u32, first: u32, spacing: u32) -> bool
     first + (gates - 1) * spacing <= 46000000
 }
 
+fn product(a: u32, b: u32) -> usize
+    ensures { λ r. ⌜ r ≡ a * b ⌝ }
+{
+    (a as usize) * (b as usize)
+}
+
+// Rays x gates.
+pub fn gates_of(head: ScanHead) -> usize
+    ensures { λ r. ⌜ r ≡ gatesOf head ⌝ }
+{
+    product(head.rays, head.gates)
+}
+
 // Columns x rows.
 fn cells_of(head: ScanHead) -> usize
-    requires { ⌜ gridAccepted (head .grid) ≡ true ⌝ }
     ensures { λ r. ⌜ r ≡ cellsOf head ⌝ }
 {
     let grid = head.grid;
-    let window = placement::window_of(grid);
-    (window.columns as usize) * (window.rows as usize)
+    match grid {
+        Grid::Radolan(g) => product(g.columns, g.rows),
+        Grid::Hrap(g) => product(g.columns, g.rows),
+    }
 }
 
-fn lengths_accepted(head: ScanHead, given: Lengths) -> bool
-    requires { ⌜ (head .rays ≤ 720) × (head .gates ≤ 1000) × (gridAccepted (head .grid) ≡ true) ⌝ }
+// The exact lengths of azimuths, values and qualities.
+pub fn lists_accepted(head: ScanHead, azimuths: usize, values: usize, qualities: usize) -> bool
+    ensures { λ r. ⌜ r ≡ listsAccepted head azimuths values qualities ⌝ }
+{
+    let gates = gates_of(head);
+    if azimuths != head.rays as usize {
+        return false;
+    }
+    if values != gates {
+        return false;
+    }
+    qualities == gates
+}
+
+// The exact lengths of all lists.
+pub fn lengths_accepted(head: ScanHead, given: Lengths) -> bool
     ensures { λ r. ⌜ r ≡ lengthsAccepted head given ⌝ }
 {
-    let rays = head.rays as usize;
-    let gates = rays * (head.gates as usize);
+    let gates = gates_of(head);
     let cells = cells_of(head);
-    if given.azimuths != rays {
-        return false;
-    }
-    if given.values != gates {
-        return false;
-    }
-    if given.qualities != gates {
+    if !lists_accepted(head, given.azimuths, given.values, given.qualities) {
         return false;
     }
     if given.ledger != gates {
@@ -128,7 +148,7 @@ fn lengths_accepted(head: ScanHead, given: Lengths) -> bool
     given.cell_qualities == cells
 }
 
-fn azimuths_accepted(azimuths: &[u32]) -> bool
+pub fn azimuths_accepted(azimuths: &[u32]) -> bool
     ensures { λ r. ⌜ r ≡ allOf azimuthAccepted (now (azimuths .entry)) ⌝ }
 {
     let mut k = 0;
@@ -141,7 +161,7 @@ fn azimuths_accepted(azimuths: &[u32]) -> bool
     true
 }
 
-fn qualities_accepted(qualities: &[u8]) -> bool
+pub fn qualities_accepted(qualities: &[u8]) -> bool
     ensures { λ r. ⌜ r ≡ allOf qualityAccepted (now (qualities .entry)) ⌝ }
 {
     let mut k = 0;

@@ -2,6 +2,7 @@
 use mathlib.Core.Path.{_≡_, sym, _∙_}
 use Prim.Native.Nat.{ℕ}
 use Rattle.remap.specs.Remap.{refusalFor}
+use Rattle.remap.specs.Scan.{scanRefusal}
 use Rattle.remap.proofs.AcceptedScan.{accepted-scan}
 use Rattle.remap.proofs.ScanAnswer.{refused-answer, done-answer, kept, filled}
 use borrow.Author.Needs.{needs}
@@ -9,21 +10,33 @@ use Rattle.remap.proofs.remap_scan.remap.Statement.{statement}
 use Rattle.remap.proofs.remap_scan.remap.Tie as tie
 
 abbrev given : tie.After-scan-refusal → tie.Start
-given c = c .before .before .before .before .before .before .before .before .before .before
+given c = c .before .before .before .before .before .before .before .before .before .before .before .before .before
 
 -- the refusal of the scan that came in
 abbrev number : tie.Start → ℕ
 number s = refusalFor (s .args .head) (s .args .azimuths .now) (s .args .values .now) (s .args .qualities .now) (s .args .ledger .now) (s .args .counts .now) (s .args .quality-sums .now) (s .args .value-sums .now) (s .args .means .now) (s .args .cell-qualities .now)
 
 is-refusal : (c : tie.After-scan-refusal) → c .scan-refusal .result ≡ number (given c)
-unfolding refusalFor
-is-refusal c = c .scan-refusal .ensures
+unfolding refusalFor scanRefusal
+is-refusal c =
+    let lists = c .before in
+    c .scan-refusal .ensures
+    ∙ simp (lists .before .before .lengths-accepted .ensures, lists .before .azimuths-accepted .ensures, lists .qualities-accepted .ensures)
 
 refused : (c : tie.Then1) → number (given (c .before)) ≡ 0 → ⊥
 refused c e = c .if1 .taken (is-refusal (c .before) ∙ e)
 
 accepted : (c : tie.Else1) → number (given (c .before)) ≡ 0
 accepted c = sym (is-refusal (c .before)) ∙ c .if1 .left
+
+lengths-accepted-requires : tie.Need-lengths-accepted-requires
+lengths-accepted-requires c κs = search needs
+
+azimuths-accepted-requires : tie.Need-azimuths-accepted-requires
+azimuths-accepted-requires c κs = search needs
+
+qualities-accepted-requires : tie.Need-qualities-accepted-requires
+qualities-accepted-requires c κs = search needs
 
 scan-refusal-requires : tie.Need-scan-refusal-requires
 scan-refusal-requires c κs = search needs
@@ -80,6 +93,9 @@ pub remap-spec : {M : Type 1} → statement M
 remap-spec =
     tie.close
     (tie.spec
+    lengths-accepted-requires
+    azimuths-accepted-requires
+    qualities-accepted-requires
     scan-refusal-requires
     returns
     accepted-remap-requires

@@ -1,35 +1,40 @@
 -- `remap::scan::cells_of` meets its contract. Assumes nothing.
-use mathlib.Core.Path.{_≡_, ap}
+use mathlib.Core.Path.{sym, ap, _∙_}
 use Prim.Native.Nat.{_*_}
-use borrow.Author.Needs.{needs}
-use Rattle.arithmetic.proofs.Machine.{fits-unsigned}
-use Rattle.placement.specs.declared.grid.Window.{Window}
+use Rattle.placement.specs.declared.grid.Grid.{Grid}
+use Rattle.placement.specs.Window.{windowOf}
 use Rattle.remap.specs.Scan.{cellsOf}
-use Rattle.remap.proofs.AcceptedScan.{cells-most}
+use borrow.Author.Needs.{needs}
 use Rattle.remap.proofs.scan.cells_of.Statement.{statement}
 use Rattle.remap.proofs.scan.cells_of.Tie as tie
 
-cells-are : (c : tie.After-window-of) → c .window-of .result .columns * c .window-of .result .rows ≡ cellsOf (c .before .args .head)
-unfolding cellsOf
-cells-are c = ap (λ (w : Window). w .columns * w .rows) (c .window-of .ensures)
+enum-known-grid : tie.Need-enum-known-grid
+enum-known-grid c = search needs
 
-window-of-requires : tie.Need-window-of-requires
-window-of-requires c κs = search needs
+product-requires : tie.Need-product-requires
+product-requires c κs = search needs
 
-cast-result : tie.Need-cast-result
-cast-result c = search needs
+enum-known-grid-2 : tie.Need-enum-known-grid-2
+enum-known-grid-2 c = search needs
 
-cast-result-2 : tie.Need-cast-result-2
-cast-result-2 c = search needs
-
-mul-result : tie.Need-mul-result
-mul-result c =
-    let s = c .before .before .before in
-    rw (cells-are (c .before .before)) (fits-unsigned (cells-most (s .args .head) (s .pre)) tt)
+product-requires-2 : tie.Need-product-requires-2
+product-requires-2 c κs = search needs
 
 returns : tie.Need-returns
-returns c = cells-are (c .before .before)
+unfolding cellsOf windowOf
+returns c = c .product .ensures ∙ sym (ap (λ (g : Grid). windowOf g .columns * windowOf g .rows) (c .before .before .grid .given .1))
+
+returns-2 : tie.Need-returns-2
+unfolding cellsOf windowOf
+returns-2 c = c .product2 .ensures ∙ sym (ap (λ (g : Grid). windowOf g .columns * windowOf g .rows) (c .before .before .grid2 .given .1))
 
 pub cells-of-spec : {M : Type 1} → statement M
 cells-of-spec =
-    tie.close (tie.spec window-of-requires cast-result cast-result-2 mul-result returns)
+    tie.close
+    (tie.spec
+    enum-known-grid
+    product-requires
+    enum-known-grid-2
+    product-requires-2
+    returns
+    returns-2)

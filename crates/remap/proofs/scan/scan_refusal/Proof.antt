@@ -1,17 +1,18 @@
 -- `remap::scan::scan_refusal` meets its contract: each number is the definition's first. Assumes nothing.
 use mathlib.Core.Path.{_≡_, sym, _∙_}
 use mathlib.Core.Bool.{true}
+use mathlib.Core.List.{[], _∷_}
+use Prim.Native.Nat.{ℕ}
 use borrow.Author.Needs.{needs}
 use borrow.Author.Tests.{not-true, not-false}
-use Rattle.arithmetic.specs.Places.{allOf}
-use Rattle.placement.specs.Refusal.{inRange, azimuthAccepted, siteAccepted, gridAccepted, firstRefusal}
+use Rattle.placement.specs.Refusal.{inRange, siteAccepted, gridAccepted, _unless_, firstRefusal}
 use Rattle.placement.proofs.Accepted.{range-bounds}
-use Rattle.remap.specs.Scan.{centresAccepted, lengthsAccepted, qualityAccepted, scanRefusal}
+use Rattle.remap.specs.Scan.{centresAccepted, scanNumber}
 use Rattle.remap.proofs.scan.scan_refusal.Statement.{statement}
 use Rattle.remap.proofs.scan.scan_refusal.Tie as tie
 
 abbrev start-rays : tie.Else1 → tie.Start
-start-rays c = c .before .before .before .before
+start-rays c = c .before .before
 
 abbrev start-gates : tie.Else2 → tie.Start
 start-gates c = start-rays (c .before .before)
@@ -24,15 +25,6 @@ start-site c = start-centres (c .before .before .before)
 
 abbrev start-grid : tie.Else5 → tie.Start
 start-grid c = start-site (c .before .before)
-
-abbrev start-lengths : tie.Else6 → tie.Start
-start-lengths c = start-grid (c .before .before)
-
-abbrev start-azimuths : tie.Else7 → tie.Start
-start-azimuths c = start-lengths (c .before .before)
-
-abbrev start-qualities : tie.Else8 → tie.Start
-start-qualities c = start-azimuths (c .before .before)
 
 -- ---- each check, as the definition has it, where it passes
 
@@ -51,29 +43,20 @@ site-passed c = sym (c .before .site-accepted .ensures) ∙ not-false _ (c .if4 
 grid-passed : (c : tie.Else5) → gridAccepted (start-grid c .args .head .grid) ≡ true
 grid-passed c = sym (c .before .grid-accepted .ensures) ∙ not-false _ (c .if5 .left)
 
-lengths-passed : (c : tie.Else6) → lengthsAccepted (start-lengths c .args .head) (start-lengths c .args .given) ≡ true
-lengths-passed c = sym (c .before .lengths-accepted .ensures) ∙ not-false _ (c .if6 .left)
-
-azimuths-passed : (c : tie.Else7) → allOf azimuthAccepted (start-azimuths c .args .azimuths .now) ≡ true
-azimuths-passed c = sym (c .before .azimuths-accepted .ensures) ∙ not-false _ (c .if7 .left)
-
-qualities-passed : (c : tie.Else8) → allOf qualityAccepted (start-qualities c .args .qualities .now) ≡ true
-qualities-passed c = sym (c .before .qualities-accepted .ensures) ∙ not-false _ (c .if8 .left)
-
 -- ---- the nine answers
 
 in-range-requires : tie.Need-in-range-requires
 in-range-requires c κs = search needs
 
 returns : tie.Need-returns
-unfolding scanRefusal firstRefusal
+unfolding scanNumber firstRefusal
 returns c = simp (sym (c .before .in-range .ensures) ∙ not-true _ (c .if1 .taken))
 
 in-range-requires-2 : tie.Need-in-range-requires-2
 in-range-requires-2 c κs = search needs
 
 returns-2 : tie.Need-returns-2
-unfolding scanRefusal firstRefusal
+unfolding scanNumber firstRefusal
 returns-2 c =
     let first = c .before .before in
     simp (rays-passed first, sym (c .before .in-range2 .ensures) ∙ not-true _ (c .if2 .taken))
@@ -82,7 +65,7 @@ centres-accepted-requires : tie.Need-centres-accepted-requires
 centres-accepted-requires c κs = range-bounds 1 1000 _ (gates-passed c)
 
 returns-3 : tie.Need-returns-3
-unfolding scanRefusal firstRefusal
+unfolding scanNumber firstRefusal
 returns-3 c =
     let second = c .before .before in
     let first = second .before .before in
@@ -92,7 +75,7 @@ site-accepted-requires : tie.Need-site-accepted-requires
 site-accepted-requires c κs = search needs
 
 returns-4 : tie.Need-returns-4
-unfolding scanRefusal firstRefusal
+unfolding scanNumber firstRefusal
 returns-4 c =
     let third = c .before .before .before in
     let second = third .before .before in
@@ -103,7 +86,7 @@ grid-accepted-requires : tie.Need-grid-accepted-requires
 grid-accepted-requires c κs = search needs
 
 returns-5 : tie.Need-returns-5
-unfolding scanRefusal firstRefusal
+unfolding scanNumber firstRefusal
 returns-5 c =
     let fourth = c .before .before in
     let third = fourth .before .before .before in
@@ -111,63 +94,45 @@ returns-5 c =
     let first = second .before .before in
     simp (rays-passed first, gates-passed second, centres-passed third, site-passed fourth, sym (c .before .grid-accepted .ensures) ∙ not-true _ (c .if5 .taken))
 
-lengths-accepted-requires : tie.Need-lengths-accepted-requires
-lengths-accepted-requires c κs =
-    let third = c .before .before .before .before .before in
+-- where the five checks of the numbers pass, the lists decide
+numbers-answered : (c : tie.Else5) (number : ℕ) → number ≡ firstRefusal ((6 unless start-grid c .args .lengths) ∷ (7 unless start-grid c .args .azimuths) ∷ (8 unless start-grid c .args .qualities) ∷ []) → number ≡ scanNumber (start-grid c .args .head) (start-grid c .args .lengths) (start-grid c .args .azimuths) (start-grid c .args .qualities)
+unfolding scanNumber firstRefusal
+numbers-answered c number e =
+    let fourth = c .before .before in
+    let third = fourth .before .before .before in
     let second = third .before .before in
     let first = second .before .before in
-    (range-bounds 1 720 _ (rays-passed first) .1, range-bounds 1 1000 _ (gates-passed second) .1, grid-passed c)
+    simp (rays-passed first, gates-passed second, centres-passed third, site-passed fourth, grid-passed c) e
+
+lengths-passed : (c : tie.Else6) → start-grid (c .before) .args .lengths ≡ true
+lengths-passed c = not-false (start-grid (c .before) .args .lengths) (c .if6 .left)
+
+azimuths-passed : (c : tie.Else7) → start-grid (c .before .before) .args .azimuths ≡ true
+azimuths-passed c = not-false (start-grid (c .before .before) .args .azimuths) (c .if7 .left)
 
 returns-6 : tie.Need-returns-6
-unfolding scanRefusal firstRefusal
-returns-6 c =
-    let fifth = c .before .before in
-    let fourth = fifth .before .before in
-    let third = fourth .before .before .before in
-    let second = third .before .before in
-    let first = second .before .before in
-    simp (rays-passed first, gates-passed second, centres-passed third, site-passed fourth, grid-passed fifth, sym (c .before .lengths-accepted .ensures) ∙ not-true _ (c .if6 .taken))
-
-azimuths-accepted-requires : tie.Need-azimuths-accepted-requires
-azimuths-accepted-requires c κs = search needs
+unfolding firstRefusal
+returns-6 c = numbers-answered (c .before) 6 (simp (not-true (start-grid (c .before) .args .lengths) (c .if6 .taken)))
 
 returns-7 : tie.Need-returns-7
-unfolding scanRefusal firstRefusal
+unfolding firstRefusal
 returns-7 c =
-    let sixth = c .before .before in
-    let fifth = sixth .before .before in
-    let fourth = fifth .before .before in
-    let third = fourth .before .before .before in
-    let second = third .before .before in
-    let first = second .before .before in
-    simp (rays-passed first, gates-passed second, centres-passed third, site-passed fourth, grid-passed fifth, lengths-passed sixth, sym (c .before .azimuths-accepted .ensures) ∙ not-true _ (c .if7 .taken))
-
-qualities-accepted-requires : tie.Need-qualities-accepted-requires
-qualities-accepted-requires c κs = search needs
+    let grid = c .before .before in
+    numbers-answered grid 7 (simp (lengths-passed (c .before), not-true (start-grid grid .args .azimuths) (c .if7 .taken)))
 
 returns-8 : tie.Need-returns-8
-unfolding scanRefusal firstRefusal
+unfolding firstRefusal
 returns-8 c =
-    let seventh = c .before .before in
-    let sixth = seventh .before .before in
-    let fifth = sixth .before .before in
-    let fourth = fifth .before .before in
-    let third = fourth .before .before .before in
-    let second = third .before .before in
-    let first = second .before .before in
-    simp (rays-passed first, gates-passed second, centres-passed third, site-passed fourth, grid-passed fifth, lengths-passed sixth, azimuths-passed seventh, sym (c .before .qualities-accepted .ensures) ∙ not-true _ (c .if8 .taken))
+    let grid = c .before .before .before in
+    numbers-answered grid 8
+    (simp (lengths-passed (c .before .before), azimuths-passed (c .before), not-true (start-grid grid .args .qualities) (c .if8 .taken)))
 
 returns-9 : tie.Need-returns-9
-unfolding scanRefusal firstRefusal
+unfolding firstRefusal
 returns-9 c =
-    let seventh = c .before .before in
-    let sixth = seventh .before .before in
-    let fifth = sixth .before .before in
-    let fourth = fifth .before .before in
-    let third = fourth .before .before .before in
-    let second = third .before .before in
-    let first = second .before .before in
-    simp (rays-passed first, gates-passed second, centres-passed third, site-passed fourth, grid-passed fifth, lengths-passed sixth, azimuths-passed seventh, qualities-passed c)
+    let grid = c .before .before .before in
+    numbers-answered grid 0
+    (simp (lengths-passed (c .before .before), azimuths-passed (c .before), not-false (start-grid grid .args .qualities) (c .if8 .left)))
 
 pub scan-refusal-spec : {M : Type 1} → statement M
 scan-refusal-spec =
@@ -183,10 +148,7 @@ scan-refusal-spec =
     returns-4
     grid-accepted-requires
     returns-5
-    lengths-accepted-requires
     returns-6
-    azimuths-accepted-requires
     returns-7
-    qualities-accepted-requires
     returns-8
     returns-9)

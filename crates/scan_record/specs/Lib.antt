@@ -1,0 +1,6 @@
+pub mod BigEndian
+pub mod RecordBytes
+pub mod RecordPlaces
+pub mod RecordRefusal
+pub mod RecordAnswer
+pub mod RecordRoom

@@ -1,0 +1,70 @@
+-- Document 01, "Refusal numbers", for records: the order of the reader's and of the writer's checks. Assumes nothing.
+use mathlib.Core.Bool.{Bool, true, cond}
+use mathlib.Core.List.{List, [], _∷_}
+use Prim.Native.Nat.{ℕ, zero, suc, _+_}
+use lib.Dec.{leb, eqb}
+use lib.ListN.{length, getD}
+use Rattle.arithmetic.specs.Places.{allOf}
+use Rattle.placement.specs.Refusal.{azimuthAccepted, _unless_, firstRefusal}
+use Rattle.remap.specs.declared.scan.ScanHead.{ScanHead}
+use Rattle.remap.specs.Scan.{gatesOf, listsAccepted, qualityAccepted, scanNumber}
+use Rattle.scan_record.specs.BigEndian.{numberAt}
+use Rattle.scan_record.specs.RecordBytes.{recordOf}
+use Rattle.scan_record.specs.RecordPlaces.{gridLength, contentLength, fieldStart, contentStart, headIn, azimuthsIn, qualitiesIn}
+
+-- the first refusal, or the second where there is none
+infixl 15 _then_
+unfoldable pub _then_ : ℕ → ℕ → ℕ
+zero then second = second
+suc number then second = suc number
+
+module _ (bytes : List ℕ) where
+  -- kind 1 has 17 bytes, kind 2 has 9
+  unfoldable pub kindAccepted : Bool
+  kindAccepted = eqb (getD bytes 29 0) (cond (eqb (gridLength bytes) 17) 1 2)
+
+  unfoldable pub weightingAccepted : Bool
+  weightingAccepted = leb (getD bytes (contentStart bytes 3) 0) 1
+
+  unfoldable pub contentAccepted : ℕ → Bool
+  contentAccepted k = getD (true ∷ true ∷ kindAccepted ∷ weightingAccepted ∷ []) k true
+
+  -- three header bytes there, tag, length, content there, then kind and weighting byte
+  unfoldable pub fieldRefusal : ℕ → ℕ
+  fieldRefusal k =
+      firstRefusal (
+      (11 unless leb (contentStart bytes k) (length bytes))
+      ∷ (12 unless eqb (getD bytes (fieldStart bytes k) 0) (k + 1))
+      ∷ (13 unless eqb (numberAt 2 bytes (fieldStart bytes k + 1)) (contentLength bytes k))
+      ∷ (11 unless leb (contentStart bytes k + contentLength bytes k) (length bytes))
+      ∷ (13 unless contentAccepted k)
+      ∷ [])
+
+  -- the first n fields, field by field
+  unfoldable pub fieldsRefusal : ℕ → ℕ
+  fieldsRefusal zero = 0
+  fieldsRefusal (suc n) = fieldsRefusal n then fieldRefusal n
+
+  -- after field 7, 14
+  unfoldable pub layoutRefusal : ℕ
+  layoutRefusal = fieldsRefusal 7 then firstRefusal ((14 unless eqb (length bytes) (fieldStart bytes 7)) ∷ [])
+
+  -- then 1 to 8, where 6 is given unless the lists have their lengths
+  unfoldable pub recordRefusal : Bool → ℕ
+  recordRefusal listsExact =
+      layoutRefusal
+      then scanNumber (headIn bytes) listsExact (allOf azimuthAccepted (azimuthsIn bytes)) (allOf qualityAccepted (qualitiesIn bytes))
+
+-- calls that lend no lists check the same without 6
+unfoldable pub headRefusal : List ℕ → ℕ
+headRefusal bytes = recordRefusal bytes true
+
+unfoldable pub readRefusal : List ℕ → List ℕ → List ℕ → List ℕ → ℕ
+readRefusal bytes azimuths values qualities =
+    recordRefusal bytes (listsAccepted (headIn bytes) (length azimuths) (length values) (length qualities))
+
+-- 1 to 8, then 15, 16; the buffer's length comes last
+unfoldable pub writeRefusal : ScanHead → List ℕ → List ℕ → List ℕ → ℕ → ℕ
+writeRefusal head azimuths values qualities room =
+    scanNumber head (listsAccepted head (length azimuths) (length values) (length qualities)) (allOf azimuthAccepted azimuths) (allOf qualityAccepted qualities)
+    then firstRefusal ((15 unless leb (gatesOf head) 32767) ∷ (16 unless leb (length (recordOf head azimuths values qualities)) room) ∷ [])

@@ -1,0 +1,24 @@
+// The content of a field, as a part of the caller's own record.
+use crate::layout::content_length;
+use crate::layout::content_start;
+use crate::refusal::record_refusal;
+ghost use mathlib.Core.Path.{_≡_};
+ghost use Rattle.scan_record.specs.RecordAnswer.{fieldPart};
+
+// Any bytes and any number: a refused record or a number other than 1 to 7 gives an empty part.
+pub fn field(bytes: &[u8], number: usize) -> &[u8]
+    ensures { λ r. ⌜ now r ≡ fieldPart (now (bytes .entry)) number ⌝ }
+{
+    if number < 1 {
+        return &bytes[0..0];
+    }
+    if 7 < number {
+        return &bytes[0..0];
+    }
+    if record_refusal(bytes, true) != 0 {
+        return &bytes[0..0];
+    }
+    let start = content_start(bytes, number - 1);
+    let end = start + content_length(bytes, number - 1);
+    &bytes[start..end]
+}

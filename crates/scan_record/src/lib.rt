@@ -1,0 +1,16 @@
+// The scan record: seven fields as bytes, read and written.
+mod contents;
+mod field_part;
+mod head;
+mod layout;
+mod numbers;
+mod reader;
+mod refusal;
+mod writer;
+
+pub use field_part::field;
+pub use reader::ReadScan;
+pub use reader::read_head;
+pub use reader::read_scan;
+pub use writer::WrittenScan;
+pub use writer::write_scan;

@@ -1,0 +1,85 @@
+// Reads a record: its head alone, or head and lists.
+use crate::head::head_in;
+use crate::layout::content_start;
+use crate::numbers::byte_at;
+use crate::numbers::u16_at;
+use crate::numbers::u32_at;
+use crate::refusal::record_refusal;
+use remap::ScanHead;
+ghost use mathlib.Core.Path.{_≡_};
+ghost use Prim.Native.Nat.{_≤_, _<_, _^_};
+ghost use lib.ListN.{length};
+ghost use Rattle.scan_record.specs.BigEndian.{numbersAt};
+ghost use Rattle.scan_record.specs.RecordPlaces.{headIn};
+ghost use Rattle.scan_record.specs.RecordRefusal.{headRefusal};
+ghost use Rattle.scan_record.specs.RecordAnswer.{readAnswer, Reading};
+
+pub enum ReadScan {
+    Head(ScanHead),
+    Refused(u32),
+}
+
+// Any bytes; it tells the number of a refused record.
+pub fn read_head(bytes: &[u8]) -> ReadScan
+    ensures { λ r. ⌜ r ≡ readAnswer (headRefusal (now (bytes .entry))) (headIn (now (bytes .entry))) ⌝ }
+{
+    let number = record_refusal(bytes, true);
+    if number != 0 {
+        return ReadScan::Refused(number);
+    }
+    ReadScan::Head(head_in(bytes))
+}
+
+// Any bytes, and three lists of any lengths. A refusal gives its number only and leaves the lists as they came in.
+pub fn read_scan(
+    bytes: &[u8],
+    azimuths: &mut [u32],
+    values: &mut [u16],
+    qualities: &mut [u8],
+) -> ReadScan
+    ensures { λ r. ⌜ Reading (now (bytes .entry)) (now (azimuths .entry)) (now (values .entry)) (now (qualities .entry)) r (now (azimuths .exit)) (now (values .exit)) (now (qualities .exit)) ⌝ }
+{
+    let head = head_in(bytes);
+    let lists_exact = remap::lists_accepted(head, azimuths.len(), values.len(), qualities.len());
+    let number = record_refusal(bytes, lists_exact);
+    if number != 0 {
+        return ReadScan::Refused(number);
+    }
+    read_azimuths(bytes, content_start(bytes, 4), azimuths);
+    read_values(bytes, content_start(bytes, 5), values);
+    read_qualities(bytes, content_start(bytes, 6), qualities);
+    ReadScan::Head(head)
+}
+
+fn read_azimuths(bytes: &[u8], start: usize, azimuths: &mut [u32])
+    requires { ⌜ (start < 2 ^ 37) × (length (now azimuths) ≤ 720) ⌝ }
+    ensures { λ _. ⌜ now (azimuths .exit) ≡ numbersAt 4 (now (bytes .entry)) start (length (now (azimuths .entry))) ⌝ }
+{
+    let mut k = 0;
+    while k < azimuths.len() {
+        azimuths[k] = u32_at(bytes, start + 4 * k);
+        k += 1;
+    }
+}
+
+fn read_values(bytes: &[u8], start: usize, values: &mut [u16])
+    requires { ⌜ (start < 2 ^ 37) × (length (now values) ≤ 720000) ⌝ }
+    ensures { λ _. ⌜ now (values .exit) ≡ numbersAt 2 (now (bytes .entry)) start (length (now (values .entry))) ⌝ }
+{
+    let mut k = 0;
+    while k < values.len() {
+        values[k] = u16_at(bytes, start + 2 * k);
+        k += 1;
+    }
+}
+
+fn read_qualities(bytes: &[u8], start: usize, qualities: &mut [u8])
+    requires { ⌜ (start < 2 ^ 37) × (length (now qualities) ≤ 720000) ⌝ }
+    ensures { λ _. ⌜ now (qualities .exit) ≡ numbersAt 1 (now (bytes .entry)) start (length (now (qualities .entry))) ⌝ }
+{
+    let mut k = 0;
+    while k < qualities.len() {
+        qualities[k] = byte_at(bytes, start + k);
+        k += 1;
+    }
+}

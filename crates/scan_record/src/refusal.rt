@@ -1,0 +1,60 @@
+// What is refused of a record: its layout, then the scan that it holds.
+use crate::head::head_in;
+use crate::layout::content_start;
+use crate::layout::gates_in;
+use crate::layout::layout_refusal;
+use crate::layout::rays_in;
+use crate::numbers::byte_at;
+use crate::numbers::u32_at;
+ghost use mathlib.Core.Path.{_≡_};
+ghost use Rattle.arithmetic.specs.Places.{allOf};
+ghost use Rattle.placement.specs.Refusal.{azimuthAccepted};
+ghost use Rattle.remap.specs.Scan.{qualityAccepted};
+ghost use Rattle.scan_record.specs.RecordPlaces.{azimuthsIn, qualitiesIn};
+ghost use Rattle.scan_record.specs.RecordRefusal.{recordRefusal};
+
+fn azimuths_accepted(bytes: &[u8]) -> bool
+    ensures { λ r. ⌜ r ≡ allOf azimuthAccepted (azimuthsIn (now (bytes .entry))) ⌝ }
+{
+    let start = content_start(bytes, 4);
+    let rays = rays_in(bytes);
+    let mut k = 0;
+    while k < rays {
+        if !placement::azimuth_accepted(u32_at(bytes, start + 4 * k)) {
+            return false;
+        }
+        k += 1;
+    }
+    true
+}
+
+fn qualities_accepted(bytes: &[u8]) -> bool
+    ensures { λ r. ⌜ r ≡ allOf qualityAccepted (qualitiesIn (now (bytes .entry))) ⌝ }
+{
+    let start = content_start(bytes, 6);
+    let gates = gates_in(bytes);
+    let mut k = 0;
+    while k < gates {
+        if 100 < byte_at(bytes, start + k) {
+            return false;
+        }
+        k += 1;
+    }
+    true
+}
+
+// 11 to 14, then 1 to 8, where 6 is given unless the lists have their lengths.
+pub fn record_refusal(bytes: &[u8], lists_exact: bool) -> u32
+    ensures { λ r. ⌜ r ≡ recordRefusal (now (bytes .entry)) «lists_exact» ⌝ }
+{
+    let number = layout_refusal(bytes);
+    if number != 0 {
+        return number;
+    }
+    remap::scan_refusal(
+        head_in(bytes),
+        lists_exact,
+        azimuths_accepted(bytes),
+        qualities_accepted(bytes),
+    )
+}
