@@ -10,13 +10,13 @@ use lib.Dec.{eqb}
 use Rattle.arithmetic.proofs.Test.{and-true}
 use Rattle.placement.specs.declared.grid.Grid.{Grid}
 use Rattle.placement.specs.declared.grid.Grid.the-variants.{Radolan, Hrap}
-use Rattle.placement.specs.Refusal.{gridAccepted, firstRefusal}
+use Rattle.placement.specs.Refusal.{inRange, siteAccepted, gridAccepted, firstRefusal}
 use Rattle.placement.specs.Window.{windowOf}
 use Rattle.placement.proofs.Accepted.{AcceptedSize, range-bounds, accepted-radolan, accepted-hrap}
 use Rattle.remap.specs.declared.scan.Lengths.{Lengths}
 use Rattle.remap.specs.declared.scan.ScanHead.{ScanHead}
 use Rattle.remap.specs.Remap.{refusalFor}
-use Rattle.remap.specs.Scan.{gatesOf, cellsOf, listsAccepted, lengthsAccepted, scanRefusal, scanNumber}
+use Rattle.remap.specs.Scan.{centresAccepted, gatesOf, cellsOf, listsAccepted, lengthsAccepted, scanNumber, scanRefusal}
 use Rattle.remap.specs.ScanRoom.{AcceptedScan}
 
 -- ---- the grid's cells
@@ -121,30 +121,56 @@ by-last-length head given lists ledger counts quality-sums value-sums means =
 -- ---- the whole scan
 
 -- where no number is given, the first test passes and the other tests give none
-passed : (b : Bool) (n rest : ℕ) → cond b rest (suc n) ≡ 0 → (b ≡ true) × (rest ≡ 0)
+pub passed : (b : Bool) (n rest : ℕ) → cond b rest (suc n) ≡ 0 → (b ≡ true) × (rest ≡ 0)
 passed true n rest e = (refl, e)
 passed false n rest e = absurd (omega arith)
 
-pub accepted-scan : (head : ScanHead) (azimuths values qualities ledger counts qualitySums valueSums means cellQualities : List ℕ) → refusalFor head azimuths values qualities ledger counts qualitySums valueSums means cellQualities ≡ 0 → AcceptedScan head azimuths values qualities ledger counts qualitySums valueSums means cellQualities
-unfolding refusalFor scanRefusal scanNumber firstRefusal
-accepted-scan head azimuths values qualities ledger counts qualitySums valueSums means cellQualities e =
+-- what a scan without a refusal has, its lists taken as tested
+pub record AcceptedNumbers (head : ScanHead) (lengths azimuths qualities : Bool) : Type 0 where
+  pub rays-accepted : inRange 1 720 (head .rays) ≡ true
+  pub gates-accepted : inRange 1 1000 (head .gates) ≡ true
+  pub centres-accepted : centresAccepted (head .gates) (head .first) (head .spacing) ≡ true
+  pub site-accepted : siteAccepted (head .site) ≡ true
+  pub grid-accepted : gridAccepted (head .grid) ≡ true
+  pub lengths-accepted : lengths ≡ true
+  pub azimuths-accepted : azimuths ≡ true
+  pub qualities-accepted : qualities ≡ true
+
+pub accepted-numbers : (head : ScanHead) (lengths azimuths qualities : Bool) → scanNumber head lengths azimuths qualities ≡ 0 → AcceptedNumbers head lengths azimuths qualities
+unfolding scanNumber firstRefusal
+accepted-numbers head lengths azimuths qualities e =
     let rays = passed _ 0 _ e in
     let gates = passed _ 1 _ (rays .1) in
     let centres = passed _ 2 _ (gates .1) in
     let site = passed _ 3 _ (centres .1) in
     let grid = passed _ 4 _ (site .1) in
-    let lengths = passed _ 5 _ (grid .1) in
-    let azimuths-tested = passed _ 6 _ (lengths .1) in
+    let lengths-tested = passed _ 5 _ (grid .1) in
+    let azimuths-tested = passed _ 6 _ (lengths-tested .1) in
     let qualities-tested = passed _ 7 _ (azimuths-tested .1) in
-    let gates-bounds = range-bounds 1 1000 (head .gates) (gates .0) in
-    let known = accepted-lengths head _ (lengths .0) in
     record {
-      rays-most = range-bounds 1 720 (head .rays) (rays .0) .1;
+      rays-accepted = rays .0;
+      gates-accepted = gates .0;
+      centres-accepted = centres .0;
+      site-accepted = site .0;
+      grid-accepted = grid .0;
+      lengths-accepted = lengths-tested .0;
+      azimuths-accepted = azimuths-tested .0;
+      qualities-accepted = qualities-tested .0;
+    }
+
+pub accepted-scan : (head : ScanHead) (azimuths values qualities ledger counts qualitySums valueSums means cellQualities : List ℕ) → refusalFor head azimuths values qualities ledger counts qualitySums valueSums means cellQualities ≡ 0 → AcceptedScan head azimuths values qualities ledger counts qualitySums valueSums means cellQualities
+unfolding refusalFor scanRefusal
+accepted-scan head azimuths values qualities ledger counts qualitySums valueSums means cellQualities e =
+    let numbers = accepted-numbers head _ _ _ e in
+    let gates-bounds = range-bounds 1 1000 (head .gates) (numbers .gates-accepted) in
+    let known = accepted-lengths head _ (numbers .lengths-accepted) in
+    record {
+      rays-most = range-bounds 1 720 (head .rays) (numbers .rays-accepted) .1;
       gates-least = gates-bounds .0;
       gates-most = gates-bounds .1;
-      centres = centres .0;
-      site = site .0;
-      grid = grid .0;
+      centres = numbers .centres-accepted;
+      site = numbers .site-accepted;
+      grid = numbers .grid-accepted;
       azimuths-length = known .azimuths-length;
       values-length = known .values-length;
       qualities-length = known .qualities-length;
@@ -154,6 +180,6 @@ accepted-scan head azimuths values qualities ledger counts qualitySums valueSums
       value-sums-length = known .value-sums-length;
       means-length = known .means-length;
       cell-qualities-length = known .cell-qualities-length;
-      azimuths-good = azimuths-tested .0;
-      qualities-good = qualities-tested .0;
+      azimuths-good = numbers .azimuths-accepted;
+      qualities-good = numbers .qualities-accepted;
     }

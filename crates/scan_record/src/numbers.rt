@@ -28,7 +28,7 @@ pub fn u16_at(bytes: &[u8], at: usize) -> u16
 }
 
 pub fn u32_at(bytes: &[u8], at: usize) -> u32
-    requires { ⌜ at < 2 ^ 40 ⌝ }
+    requires { ⌜ at < 2 ^ 39 ⌝ }
     ensures { λ r. ⌜ r ≡ numberAt 4 (now (bytes .entry)) at ⌝ }
 {
     let high = u16_at(bytes, at) as u32;
@@ -54,7 +54,7 @@ pub fn i16_at(bytes: &[u8], at: usize) -> i64
 }
 
 pub fn i32_at(bytes: &[u8], at: usize) -> i64
-    requires { ⌜ at < 2 ^ 40 ⌝ }
+    requires { ⌜ at < 2 ^ 39 ⌝ }
     ensures { λ r. ⌜ r ≡ signedAt 4 (now (bytes .entry)) at ⌝ }
 {
     signed(4294967296, u32_at(bytes, at) as u64)

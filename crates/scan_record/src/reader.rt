@@ -10,7 +10,7 @@ ghost use mathlib.Core.Path.{_≡_};
 ghost use Prim.Native.Nat.{_≤_, _<_, _^_};
 ghost use lib.ListN.{length};
 ghost use Rattle.scan_record.specs.BigEndian.{numbersAt};
-ghost use Rattle.scan_record.specs.RecordPlaces.{headIn};
+ghost use Rattle.scan_record.specs.RecordPlaces.{contentStart, headIn};
 ghost use Rattle.scan_record.specs.RecordRefusal.{headRefusal};
 ghost use Rattle.scan_record.specs.RecordAnswer.{readAnswer, Reading};
 
@@ -45,10 +45,20 @@ pub fn read_scan(
     if number != 0 {
         return ReadScan::Refused(number);
     }
+    read_lists(bytes, azimuths, values, qualities);
+    ReadScan::Head(head)
+}
+
+// The three lists of an accepted record.
+fn read_lists(bytes: &[u8], azimuths: &mut [u32], values: &mut [u16], qualities: &mut [u8])
+    requires { ⌜ (length (now azimuths) ≤ 720) × (length (now values) ≤ 720000) × (length (now qualities) ≤ 720000) ⌝ }
+    ensures { λ _. ⌜ now (azimuths .exit) ≡ numbersAt 4 (now (bytes .entry)) (contentStart (now (bytes .entry)) 4) (length (now (azimuths .entry))) ⌝ }
+    ensures { λ _. ⌜ now (values .exit) ≡ numbersAt 2 (now (bytes .entry)) (contentStart (now (bytes .entry)) 5) (length (now (values .entry))) ⌝ }
+    ensures { λ _. ⌜ now (qualities .exit) ≡ numbersAt 1 (now (bytes .entry)) (contentStart (now (bytes .entry)) 6) (length (now (qualities .entry))) ⌝ }
+{
     read_azimuths(bytes, content_start(bytes, 4), azimuths);
     read_values(bytes, content_start(bytes, 5), values);
     read_qualities(bytes, content_start(bytes, 6), qualities);
-    ReadScan::Head(head)
 }
 
 fn read_azimuths(bytes: &[u8], start: usize, azimuths: &mut [u32])

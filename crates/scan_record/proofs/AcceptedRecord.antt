@@ -1,0 +1,131 @@
+-- What a record has where nothing of it is refused. Assumes nothing.
+use mathlib.Core.Path.{_≡_, refl, sym, subst}
+use mathlib.Core.Bool.{Bool, true}
+use mathlib.Core.List.{List}
+use mathlib.Core.Logic.{_⊎_, inl, inr}
+use Prim.Native.Nat.{ℕ, zero, suc, _+_, _<_, _≤_}
+use native.Mathlib.Nat.{eq-or-lt-of-le, le-of-suc-le-suc}
+use native.Mathlib.Omega.{arith}
+use borrow.Author.Tests.{leb-true, eqb-true, le-leb, eq-eqb}
+use lib.ListN.{length, getD}
+use Rattle.arithmetic.specs.Places.{allOf}
+use Rattle.placement.specs.Refusal.{azimuthAccepted, firstRefusal}
+use Rattle.remap.specs.declared.scan.ScanHead.{ScanHead}
+use Rattle.remap.specs.Scan.{gatesOf, listsAccepted, qualityAccepted, scanNumber}
+use Rattle.remap.proofs.AcceptedScan.{AcceptedNumbers, accepted-numbers, passed}
+use Rattle.scan_record.specs.BigEndian.{numberAt}
+use Rattle.scan_record.specs.RecordBytes.{recordOf}
+use Rattle.scan_record.specs.RecordPlaces.{contentLength, fieldStart, contentStart, headIn, azimuthsIn, qualitiesIn}
+use Rattle.scan_record.specs.RecordRefusal.{_then_, contentAccepted, fieldRefusal, fieldsRefusal, layoutRefusal, recordRefusal, headRefusal, readRefusal, writeRefusal}
+
+-- neither of two numbers is given
+pub then-none : (first second : ℕ) → (first then second) ≡ 0 → (first ≡ 0) × (second ≡ 0)
+unfolding _then_
+then-none zero second e = (refl, e)
+then-none (suc number) second e = absurd (omega arith)
+
+pub then-zero : {first second : ℕ} → first ≡ 0 → second ≡ 0 → (first then second) ≡ 0
+unfolding _then_
+then-zero {first} {second} e f = rw e f
+
+-- ---- the layout
+
+pub record AcceptedField (bytes : List ℕ) (k : ℕ) : Type 0 where
+  pub header-there : contentStart bytes k ≤ length bytes
+  pub tag : getD bytes (fieldStart bytes k) 0 ≡ k + 1
+  pub size : numberAt 2 bytes (fieldStart bytes k + 1) ≡ contentLength bytes k
+  pub content-there : contentStart bytes k + contentLength bytes k ≤ length bytes
+  pub content-accepted : contentAccepted bytes k ≡ true
+
+pub accepted-field : (bytes : List ℕ) (k : ℕ) → fieldRefusal bytes k ≡ 0 → AcceptedField bytes k
+unfolding fieldRefusal firstRefusal
+accepted-field bytes k e =
+    let header = passed _ 10 _ e in
+    let tag = passed _ 11 _ (header .1) in
+    let size = passed _ 12 _ (tag .1) in
+    let content = passed _ 10 _ (size .1) in
+    record {
+      header-there = leb-true _ _ (header .0);
+      tag = eqb-true _ _ (tag .0);
+      size = eqb-true _ _ (size .0);
+      content-there = leb-true _ _ (content .0);
+      content-accepted = passed _ 12 _ (content .1) .0;
+    }
+
+pub field-none : (bytes : List ℕ) (k : ℕ) → AcceptedField bytes k → fieldRefusal bytes k ≡ 0
+unfolding fieldRefusal firstRefusal
+field-none bytes k field =
+    rw (le-leb _ _ (field .header-there), eq-eqb _ _ (field .tag), eq-eqb _ _ (field .size), le-leb _ _ (field .content-there), field .content-accepted)
+
+pub fields-accepted : (bytes : List ℕ) (n : ℕ) → fieldsRefusal bytes n ≡ 0 → (k : ℕ) → k < n → fieldRefusal bytes k ≡ 0
+unfolding fieldsRefusal
+fields-accepted bytes zero e k h = absurd (omega arith)
+fields-accepted bytes (suc n) e k h =
+    pick (eq-or-lt-of-le (le-of-suc-le-suc h)) (then-none _ _ e .1) (λ l. fields-accepted bytes n (then-none _ _ e .0) k l)
+  where
+    pick : (k ≡ n) ⊎ (k < n) → fieldRefusal bytes n ≡ 0 → (k < n → fieldRefusal bytes k ≡ 0) → fieldRefusal bytes k ≡ 0
+    pick (inl q) last before = subst (λ (j : ℕ). fieldRefusal bytes j ≡ 0) (sym q) last
+    pick (inr l) last before = before l
+
+fields-none : (bytes : List ℕ) (n : ℕ) → ((k : ℕ) → k < n → fieldRefusal bytes k ≡ 0) → fieldsRefusal bytes n ≡ 0
+unfolding fieldsRefusal
+fields-none bytes zero none = refl
+fields-none bytes (suc n) none = then-zero (fields-none bytes n (λ k h. none k (omega arith))) (none n (omega arith))
+
+pub record AcceptedLayout (bytes : List ℕ) : Type 0 where
+  pub field : (k : ℕ) → k < 7 → AcceptedField bytes k
+  pub whole : length bytes ≡ fieldStart bytes 7
+
+pub accepted-layout : (bytes : List ℕ) → layoutRefusal bytes ≡ 0 → AcceptedLayout bytes
+unfolding layoutRefusal firstRefusal
+accepted-layout bytes e =
+    let parts = then-none _ _ e in
+    record {
+      field = λ k h. accepted-field bytes k (fields-accepted bytes 7 (parts .0) k h);
+      whole = eqb-true _ _ (passed _ 13 _ (parts .1) .0);
+    }
+
+pub layout-none : (bytes : List ℕ) → AcceptedLayout bytes → layoutRefusal bytes ≡ 0
+unfolding layoutRefusal firstRefusal
+layout-none bytes layout =
+    then-zero (fields-none bytes 7 (λ k h. field-none bytes k (layout .field k h))) (rw (eq-eqb _ _ (layout .whole)))
+
+-- ---- the whole record
+
+pub record AcceptedRecord (bytes : List ℕ) (exact : Bool) : Type 0 where
+  pub layout : AcceptedLayout bytes
+  pub number : scanNumber (headIn bytes) exact (allOf azimuthAccepted (azimuthsIn bytes)) (allOf qualityAccepted (qualitiesIn bytes)) ≡ 0
+
+pub accepted-record : (bytes : List ℕ) (exact : Bool) → recordRefusal bytes exact ≡ 0 → AcceptedRecord bytes exact
+unfolding recordRefusal
+accepted-record bytes exact e =
+    let parts = then-none _ _ e in
+    record { layout = accepted-layout bytes (parts .0); number = parts .1 }
+
+-- where the reader refuses nothing, the calls that lend no lists refuse nothing either
+pub read-accepted : (bytes azimuths values qualities : List ℕ) → readRefusal bytes azimuths values qualities ≡ 0 → headRefusal bytes ≡ 0
+unfolding readRefusal headRefusal
+read-accepted bytes azimuths values qualities e =
+    let exact = listsAccepted (headIn bytes) (length azimuths) (length values) (length qualities) in
+    let numbers = accepted-numbers (headIn bytes) exact _ _ (accepted-record bytes exact e .number) in
+    subst (λ (t : Bool). recordRefusal bytes t ≡ 0) (numbers .lengths-accepted) e
+
+-- ---- a scan that the writer does not refuse
+
+pub record AcceptedWriting (head : ScanHead) (azimuths values qualities : List ℕ) (room : ℕ) : Type 0 where
+  pub none : scanNumber head (listsAccepted head (length azimuths) (length values) (length qualities)) (allOf azimuthAccepted azimuths) (allOf qualityAccepted qualities) ≡ 0
+  pub numbers : AcceptedNumbers head (listsAccepted head (length azimuths) (length values) (length qualities)) (allOf azimuthAccepted azimuths) (allOf qualityAccepted qualities)
+  pub gates-most : gatesOf head ≤ 32767
+  pub room-enough : length (recordOf head azimuths values qualities) ≤ room
+
+pub accepted-writing : (head : ScanHead) (azimuths values qualities : List ℕ) (room : ℕ) → writeRefusal head azimuths values qualities room ≡ 0 → AcceptedWriting head azimuths values qualities room
+unfolding writeRefusal firstRefusal
+accepted-writing head azimuths values qualities room e =
+    let parts = then-none _ _ e in
+    let gates = passed _ 14 _ (parts .1) in
+    record {
+      none = parts .0;
+      numbers = accepted-numbers head _ _ _ (parts .0);
+      gates-most = leb-true _ _ (gates .0);
+      room-enough = leb-true _ _ (passed _ 15 _ (gates .1) .0);
+    }

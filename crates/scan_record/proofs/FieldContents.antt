@@ -1,0 +1,26 @@
+-- Document 01, "Scan record": a field's part of an accepted record is the content that is written for it. Assumes nothing.
+use mathlib.Core.Path.{_≡_, sym, ap, _∙_}
+use mathlib.Core.Bool.{true}
+use mathlib.Core.List.{List, []}
+use Prim.Native.Nat.{ℕ, _+_, _<_}
+use native.Mathlib.Omega.{arith}
+use lib.ListN.{getD, take, drop}
+use Rattle.scan_record.specs.RecordBytes.{contentsOf}
+use Rattle.scan_record.specs.RecordPlaces.{contentLength, contentStart, headIn, azimuthsIn, valuesIn, qualitiesIn}
+use Rattle.scan_record.specs.RecordRefusal.{headRefusal}
+use Rattle.scan_record.specs.RecordAnswer.{part, fieldPart}
+use Rattle.scan_record.proofs.AcceptedRecord.{accepted-record}
+use Rattle.scan_record.proofs.FieldParts.{part-given}
+use Rattle.scan_record.proofs.ReadThenWrite.{content-length, content-stands}
+
+-- fields 1 to 7 of a record that is not refused
+accepted-part : (bytes : List ℕ) (k : ℕ) → k < 7 → headRefusal bytes ≡ 0 → fieldPart bytes (k + 1) ≡ part (contentStart bytes k) (contentLength bytes k) bytes
+accepted-part bytes k h e =
+    sym (part-given bytes (k + 1) (omega arith) (omega arith) e) ∙ ap (λ (j : ℕ). part (contentStart bytes j) (contentLength bytes j) bytes) (omega arith)
+
+pub field-contents : (bytes : List ℕ) → ((k : ℕ) → getD bytes k 0 < 256) → headRefusal bytes ≡ 0 → (k : ℕ) → k < 7 → fieldPart bytes (k + 1) ≡ getD (contentsOf (headIn bytes) (azimuthsIn bytes) (valuesIn bytes) (qualitiesIn bytes)) k []
+unfolding part headRefusal
+field-contents bytes small e k h =
+    accepted-part bytes k h e
+    ∙ ap (λ (n : ℕ). take n (drop (contentStart bytes k) bytes)) (sym (content-length bytes k h))
+    ∙ content-stands bytes small (accepted-record bytes true e .layout) k h .same

@@ -1,0 +1,16 @@
+pub mod StandsAt
+pub mod BigEndianLaws
+pub mod SetsLaws
+pub mod ReadNumbers
+pub mod LayoutSteps
+pub mod ContentLengths
+pub mod WrittenBytes
+pub mod FieldStands
+pub mod AcceptedRecord
+pub mod ReadAnswers
+pub mod FieldParts
+pub mod WriterAccepted
+pub mod ReadThenWrite
+pub mod FieldContents
+pub mod ContentsRead
+pub mod WriteThenRead

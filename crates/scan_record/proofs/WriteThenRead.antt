@@ -1,0 +1,231 @@
+-- Document 01, "Scan record": a scan that is written and read again is the same scan, with the same refusal. Assumes nothing.
+use mathlib.Core.Path.{_≡_, refl, sym, ap, _∙_}
+use mathlib.Core.Bool.{Bool, true}
+use mathlib.Core.List.{List, [], _∷_}
+use Prim.Native.Nat.{ℕ, _+_, _*_, _<_, _≤_}
+use native.Mathlib.Nat.{le-of-lt}
+use native.Mathlib.Omega.{arith}
+use borrow.Author.Tests.{leb-true}
+use lib.ListN.{length, getD}
+use Rattle.arithmetic.specs.Places.{sumTo, allOf}
+use Rattle.arithmetic.proofs.Places.{all-at}
+use Rattle.placement.specs.declared.grid.Grid.{Grid}
+use Rattle.placement.specs.declared.grid.Grid.the-variants.{Radolan, Hrap}
+use Rattle.placement.specs.Refusal.{azimuthAccepted}
+use Rattle.placement.proofs.Accepted.{range-bounds, accepted-azimuth}
+use Rattle.remap.specs.declared.scan.ScanHead.{ScanHead}
+use Rattle.remap.specs.Scan.{gatesOf, listsAccepted, qualityAccepted, scanNumber}
+use Rattle.remap.proofs.AcceptedScan.{AcceptedLists, accepted-lists}
+use Rattle.scan_record.specs.BigEndian.{numberAt, numbersAt}
+use Rattle.scan_record.specs.RecordBytes.{gridBytes, contentsOf, fieldBytes, recordOf}
+use Rattle.scan_record.specs.RecordPlaces.{gridLength, raysIn, gatesIn, contentLength, fieldStart, contentStart, headIn, azimuthsIn, valuesIn, qualitiesIn}
+use Rattle.scan_record.specs.RecordRefusal.{_then_, weightingAccepted, contentAccepted, recordRefusal, headRefusal, readRefusal, writeRefusal}
+use Rattle.scan_record.proofs.StandsAt.{Stands, stands-moved, stands-whole, stands-within}
+use Rattle.scan_record.proofs.BigEndianLaws.{bytes-length, all-bytes-length, numbers-read}
+use Rattle.scan_record.proofs.FieldStands.{FieldAt, field-read, startAmong, fields-length, fields-read, same-starts}
+use Rattle.scan_record.proofs.ContentLengths.{each-field, field-length, site-length, gates-length, gridLengthOf, grid-length}
+use Rattle.scan_record.proofs.ContentsRead.{GatesRead, site-read, gates-are-read, grid-read, kind-read, weighting-read}
+use Rattle.scan_record.proofs.AcceptedRecord.{AcceptedField, AcceptedLayout, AcceptedWriting, accepted-writing, layout-none}
+
+grid-length-most : (grid : Grid) → gridLengthOf grid ≤ 17
+unfolding gridLengthOf
+grid-length-most (Radolan g) = omega arith
+grid-length-most (Hrap g) = omega arith
+
+-- the length that is read is the grid's
+grid-length-read : (grid : Grid) (bytes : List ℕ) → numberAt 2 bytes 27 ≡ gridLengthOf grid → gridLength bytes ≡ gridLengthOf grid
+unfolding gridLength gridLengthOf
+grid-length-read (Radolan g) bytes e = rw e
+grid-length-read (Hrap g) bytes e = rw e
+
+module _ (head : ScanHead) (azimuths values qualities : List ℕ) where
+  abbrev contents : List (List ℕ)
+  contents = contentsOf head azimuths values qualities
+
+  -- the lengths of the contents, in the scan's numbers
+  abbrev sizes : List ℕ
+  sizes = 8 ∷ 12 ∷ gridLengthOf (head .grid) ∷ 1 ∷ 4 * head .rays ∷ 2 * gatesOf head ∷ gatesOf head ∷ []
+
+  sizes-are : AcceptedLists head (length azimuths) (length values) (length qualities) → (k : ℕ) → k < 7 → length (getD contents k []) ≡ getD sizes k 0
+  unfolding contentsOf
+  sizes-are lists =
+      each-field (λ k. length (getD contents k []) ≡ getD sizes k 0)
+      (site-length (head .site))
+      (gates-length head)
+      (grid-length (head .grid))
+      (bytes-length 1 _)
+      (all-bytes-length 4 azimuths ∙ ap (λ (n : ℕ). 4 * n) (lists .azimuths-length))
+      (all-bytes-length 2 values ∙ ap (λ (n : ℕ). 2 * n) (lists .values-length))
+      (all-bytes-length 1 qualities ∙ omega (arith, lists .qualities-length))
+
+  -- each content's length has two bytes
+  sizes-small : head .rays ≤ 720 → gatesOf head ≤ 32767 → (k : ℕ) → k < 7 → getD sizes k 0 < 65536
+  sizes-small rays gates =
+      each-field (λ k. getD sizes k 0 < 65536)
+      (omega arith) (omega arith) (omega (arith, grid-length-most (head .grid))) (omega arith) (omega arith) (omega arith) (omega arith)
+
+  first-starts : (startAmong contents 0 ≡ 0) × (startAmong contents 1 ≡ 11) × (startAmong contents 2 ≡ 26)
+  unfolding startAmong sumTo contentsOf
+  first-starts = (refl, rw (site-length (head .site)), rw (site-length (head .site), gates-length head))
+
+  -- bytes in which the record stands
+  module _ (bytes : List ℕ) (room : ℕ) (accepted : AcceptedWriting head azimuths values qualities room) (stands : Stands (recordOf head azimuths values qualities) 0 bytes) (whole : length bytes ≡ length (recordOf head azimuths values qualities)) where
+    lists : AcceptedLists head (length azimuths) (length values) (length qualities)
+    lists = accepted-lists head (length azimuths) (length values) (length qualities) (accepted .numbers .lengths-accepted)
+
+    rays-most : head .rays ≤ 720
+    rays-most = range-bounds 1 720 (head .rays) (accepted .numbers .rays-accepted) .1
+
+    field-stands : (k : ℕ) → k < 7 → Stands (fieldBytes (1 + k) (getD contents k [])) (startAmong contents k) bytes
+    unfolding recordOf contentsOf
+    field-stands k h = stands-moved (omega arith) (fields-read 1 contents 0 bytes stands k h)
+
+    field-at : (k : ℕ) → k < 7 → FieldAt (1 + k) (getD contents k []) (startAmong contents k) bytes
+    field-at k h =
+        field-read (1 + k) (getD contents k []) (startAmong contents k) bytes (omega arith)
+        (rw (sizes-are lists k h) (sizes-small rays-most (accepted .gates-most) k h)) (field-stands k h)
+
+    gates-there : GatesRead head bytes
+    unfolding contentsOf
+    gates-there =
+        gates-are-read head bytes rays-most (range-bounds 1 1000 (head .gates) (accepted .numbers .gates-accepted) .1) (accepted .numbers .centres-accepted)
+        (stands-moved (omega (arith, first-starts .1)) (field-at 1 (omega arith) .content-stands))
+
+    grid-length-there : gridLength bytes ≡ gridLengthOf (head .grid)
+    unfolding contentsOf
+    grid-length-there =
+        grid-length-read (head .grid) bytes
+        (ap (numberAt 2 bytes) (omega (arith, first-starts .2)) ∙ field-at 2 (omega arith) .size-there ∙ grid-length (head .grid))
+
+    size-there : (k : ℕ) → k < 7 → length (getD contents k []) ≡ contentLength bytes k
+    unfolding contentLength raysIn gatesIn gatesOf
+    size-there k h =
+        sizes-are lists k h ∙ rw (grid-length-there, gates-there .rays-read, gates-there .gates-read)
+
+    start-there : (n : ℕ) → n ≤ 7 → startAmong contents n ≡ fieldStart bytes n
+    start-there n h = same-starts contents bytes n (λ k l. size-there k (omega arith))
+
+    content-there : (k : ℕ) → k < 7 → Stands (getD contents k []) (contentStart bytes k) bytes
+    unfolding contentStart
+    content-there k h = stands-moved (ap (λ (n : ℕ). n + 3) (start-there k (le-of-lt h))) (field-at k h .content-stands)
+
+    grid-there : Stands (gridBytes (head .grid)) 29 bytes
+    unfolding contentsOf
+    grid-there = stands-moved (omega (arith, first-starts .2)) (field-at 2 (omega arith) .content-stands)
+
+    content-good : (k : ℕ) → k < 7 → contentAccepted bytes k ≡ true
+    unfolding contentAccepted weightingAccepted contentsOf
+    content-good =
+        each-field (λ k. contentAccepted bytes k ≡ true) refl refl
+        (kind-read (head .grid) bytes grid-length-there grid-there)
+        (weighting-read (head .weighting) (contentStart bytes 3) bytes (content-there 3 (omega arith)) .1)
+        refl refl refl
+
+    -- ---- nothing of the layout is refused
+
+    within : (k : ℕ) → k < 7 → fieldStart bytes k + (3 + contentLength bytes k) ≤ length bytes
+    within k h =
+        let size = field-length (1 + k) (getD contents k []) in
+        omega (arith, stands-within (field-stands k h) (omega arith), start-there k (le-of-lt h), size-there k h)
+
+    field-good : (k : ℕ) → k < 7 → AcceptedField bytes k
+    unfolding contentStart
+    field-good k h =
+        let there = field-at k h in
+        let start = start-there k (le-of-lt h) in
+        record {
+          header-there = omega (arith, within k h);
+          tag = ap (λ (n : ℕ). getD bytes n 0) (sym start) ∙ there .tag-there ∙ omega arith;
+          size = ap (λ (n : ℕ). numberAt 2 bytes (n + 1)) (sym start) ∙ there .size-there ∙ size-there k h;
+          content-there = omega (arith, within k h);
+          content-accepted = content-good k h;
+        }
+
+    layout-good : AcceptedLayout bytes
+    unfolding recordOf contentsOf
+    layout-good = record {
+      field = field-good;
+      whole = whole ∙ fields-length 1 contents ∙ start-there 7 (omega arith);
+    }
+
+    -- ---- what is read
+
+    head-back : headIn bytes ≡ head
+    unfolding headIn contentsOf
+    head-back =
+        let known = accepted .numbers in
+        let site = site-read (head .site) bytes (known .site-accepted) (stands-moved (omega (arith, first-starts .0)) (field-at 0 (omega arith) .content-stands)) in
+        let grid = grid-read (head .grid) bytes (known .grid-accepted) grid-length-there grid-there in
+        let weighting = weighting-read (head .weighting) (contentStart bytes 3) bytes (content-there 3 (omega arith)) .0 in
+        λ i. record {
+          site = site i;
+          rays = gates-there .rays-read i;
+          gates = gates-there .gates-read i;
+          first = gates-there .first-read i;
+          spacing = gates-there .spacing-read i;
+          grid = grid i;
+          weighting = weighting i;
+        }
+
+    gates-back : gatesIn bytes ≡ gatesOf head
+    unfolding gatesIn gatesOf
+    gates-back = rw (gates-there .rays-read, gates-there .gates-read)
+
+    azimuths-back : azimuthsIn bytes ≡ azimuths
+    unfolding azimuthsIn raysIn contentsOf azimuthAccepted
+    azimuths-back =
+        ap (numbersAt 4 bytes (contentStart bytes 4)) (gates-there .rays-read ∙ sym (lists .azimuths-length))
+        ∙ numbers-read 4 azimuths (contentStart bytes 4) bytes
+        (λ k. omega (arith, accepted-azimuth (getD azimuths k 0) (all-at azimuthAccepted azimuths refl (accepted .numbers .azimuths-accepted) k)))
+        (content-there 4 (omega arith))
+
+    values-back : ((k : ℕ) → getD values k 0 < 65536) → valuesIn bytes ≡ values
+    unfolding valuesIn contentsOf
+    values-back small =
+        ap (numbersAt 2 bytes (contentStart bytes 5)) (gates-back ∙ sym (lists .values-length))
+        ∙ numbers-read 2 values (contentStart bytes 5) bytes small (content-there 5 (omega arith))
+
+    qualities-back : qualitiesIn bytes ≡ qualities
+    unfolding qualitiesIn contentsOf qualityAccepted
+    qualities-back =
+        ap (numbersAt 1 bytes (contentStart bytes 6)) (gates-back ∙ sym (lists .qualities-length))
+        ∙ numbers-read 1 qualities (contentStart bytes 6) bytes
+        (λ k. omega (arith, leb-true (getD qualities k 0) 100 (all-at qualityAccepted qualities refl (accepted .numbers .qualities-accepted) k)))
+        (content-there 6 (omega arith))
+
+    -- the reader's refusal is the scan's
+    refusal-back : (exact : Bool) → recordRefusal bytes exact ≡ scanNumber head exact (allOf azimuthAccepted azimuths) (allOf qualityAccepted qualities)
+    unfolding recordRefusal _then_
+    refusal-back exact = rw (layout-none bytes layout-good, head-back, azimuths-back, qualities-back)
+
+-- ---- a written scan
+
+pub record ReadBack (head : ScanHead) (azimuths values qualities bytes : List ℕ) : Type 0 where
+  pub same-head : headIn bytes ≡ head
+  pub same-azimuths : azimuthsIn bytes ≡ azimuths
+  pub same-values : valuesIn bytes ≡ values
+  pub same-qualities : qualitiesIn bytes ≡ qualities
+  pub same-refusal : (exact : Bool) → recordRefusal bytes exact ≡ scanNumber head exact (allOf azimuthAccepted azimuths) (allOf qualityAccepted qualities)
+  pub head-not-refused : headRefusal bytes ≡ 0
+  pub lists-not-refused : (a v q : List ℕ) → length a ≡ length azimuths → length v ≡ length values → length q ≡ length qualities → readRefusal bytes a v q ≡ 0
+
+pub write-then-read : (head : ScanHead) (azimuths values qualities : List ℕ) (room : ℕ) → ((k : ℕ) → getD values k 0 < 65536) → writeRefusal head azimuths values qualities room ≡ 0 → ReadBack head azimuths values qualities (recordOf head azimuths values qualities)
+unfolding headRefusal readRefusal
+write-then-read head azimuths values qualities room small e =
+    let bytes = recordOf head azimuths values qualities in
+    let accepted = accepted-writing head azimuths values qualities room e in
+    let stands = stands-whole bytes in
+    let refusal : (exact : Bool) → recordRefusal bytes exact ≡ scanNumber head exact (allOf azimuthAccepted azimuths) (allOf qualityAccepted qualities) =
+    refusal-back head azimuths values qualities bytes room accepted stands refl in
+    let head-same : headIn bytes ≡ head = head-back head azimuths values qualities bytes room accepted stands refl in
+    let exact : listsAccepted head (length azimuths) (length values) (length qualities) ≡ true = accepted .numbers .lengths-accepted in
+    let none : scanNumber head true (allOf azimuthAccepted azimuths) (allOf qualityAccepted qualities) ≡ 0 = rw exact at (accepted .none) in
+    record {
+      same-head = head-same;
+      same-azimuths = azimuths-back head azimuths values qualities bytes room accepted stands refl;
+      same-values = values-back head azimuths values qualities bytes room accepted stands refl small;
+      same-qualities = qualities-back head azimuths values qualities bytes room accepted stands refl;
+      same-refusal = refusal;
+      head-not-refused = refusal true ∙ none;
+      lists-not-refused = λ a v q p r s. ap (recordRefusal bytes) (rw (head-same, p, r, s, exact)) ∙ refusal true ∙ none;
+    }

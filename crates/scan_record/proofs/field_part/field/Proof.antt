@@ -1,0 +1,107 @@
+-- `scan_record::field_part::field` meets its contract. Assumes nothing.
+use mathlib.Core.Path.{_≡_, sym, _∙_}
+use Prim.Native.Nat.{_+_, _≤_}
+use native.Mathlib.Omega.{arith}
+use lib.ListN.{length}
+use Rattle.scan_record.specs.RecordRefusal.{headRefusal}
+use Rattle.scan_record.proofs.FieldParts.{part-below, part-beyond, part-refused, part-given, part-inside, part-between}
+use borrow.Author.Needs.{needs}
+use Rattle.scan_record.proofs.field_part.field.Statement.{statement}
+use Rattle.scan_record.proofs.field_part.field.Tie as tie
+
+-- the record is not refused
+accepted : (c : tie.Else3) → headRefusal (c .before .before .before .before .before .args .bytes .now) ≡ 0
+unfolding headRefusal
+accepted c = sym (c .before .record-refusal .ensures) ∙ c .if3 .left
+
+end-inside : (c : tie.After-content-length) → c .before .content-start .result + c .content-length .result ≤ length (c .before .before .before .before .before .before .before .args .bytes .now)
+end-inside c =
+    let good = c .before .before in
+    let s = good .before .before .before .before .before in
+    omega (arith, part-inside (s .args .bytes .now) (s .args .number) (omega (arith, good .before .before .before .if1 .left)) (good .before .before .if2 .left) (accepted good), c .before .content-start .ensures .0, c .content-length .ensures .0)
+
+sub-result : tie.Need-sub-result
+sub-result c = search needs
+
+part-result-start : tie.Need-part-result-start
+part-result-start c = search needs
+
+part-result-end : tie.Need-part-result-end
+part-result-end c = search needs
+
+returns : tie.Need-returns
+returns c = part-below _ _ (c .before .if1 .taken)
+
+sub-result-2 : tie.Need-sub-result-2
+sub-result-2 c = search needs
+
+part-result-start-2 : tie.Need-part-result-start-2
+part-result-start-2 c = search needs
+
+part-result-end-2 : tie.Need-part-result-end-2
+part-result-end-2 c = search needs
+
+returns-2 : tie.Need-returns-2
+returns-2 c = part-beyond _ _ (c .before .before .if1 .left) (c .before .if2 .taken)
+
+record-refusal-requires : tie.Need-record-refusal-requires
+record-refusal-requires c κs = search needs
+
+sub-result-3 : tie.Need-sub-result-3
+sub-result-3 c = search needs
+
+part-result-start-3 : tie.Need-part-result-start-3
+part-result-start-3 c = search needs
+
+part-result-end-3 : tie.Need-part-result-end-3
+part-result-end-3 c = search needs
+
+returns-3 : tie.Need-returns-3
+unfolding headRefusal
+returns-3 c = part-refused _ _ (c .before .before .before .before .if1 .left) (c .before .before .before .if2 .left) (λ e. c .before .if3 .taken (c .before .before .record-refusal .ensures ∙ e))
+
+content-start-requires : tie.Need-content-start-requires
+content-start-requires c κs = search needs
+
+content-length-requires : tie.Need-content-length-requires
+content-length-requires c κs = search needs
+
+add-end : tie.Need-add-end
+add-end c = record { fits = omega (arith, c .before .content-start .ensures .1, c .content-length .ensures .1) }
+
+sub-result-4 : tie.Need-sub-result-4
+sub-result-4 c = search needs
+
+part-result-start-4 : tie.Need-part-result-start-4
+part-result-start-4 c = search needs
+
+part-result-end-4 : tie.Need-part-result-end-4
+part-result-end-4 c = end-inside c
+
+returns-4 : tie.Need-returns-4
+returns-4 c = part-between _ _ _ (c .before .before .content-start .ensures .0) (c .before .content-length .ensures .0) ∙ part-given _ _ (c .before .before .before .before .before .before .if1 .left) (c .before .before .before .before .before .if2 .left) (accepted (c .before .before .before))
+
+pub field-spec : {M : Type 1} → statement M
+field-spec =
+    tie.close
+    (tie.spec
+    sub-result
+    part-result-start
+    part-result-end
+    returns
+    sub-result-2
+    part-result-start-2
+    part-result-end-2
+    returns-2
+    record-refusal-requires
+    sub-result-3
+    part-result-start-3
+    part-result-end-3
+    returns-3
+    content-start-requires
+    content-length-requires
+    add-end
+    sub-result-4
+    part-result-start-4
+    part-result-end-4
+    returns-4)

@@ -1,0 +1,19 @@
+-- `scan_record::layout::rays_in` meets its contract. Assumes nothing.
+use native.Mathlib.Omega.{arith}
+use Rattle.scan_record.specs.RecordPlaces.{raysIn}
+use borrow.Author.Needs.{needs}
+use Rattle.scan_record.proofs.layout.rays_in.Statement.{statement}
+use Rattle.scan_record.proofs.layout.rays_in.Tie as tie
+
+u16-at-requires : tie.Need-u16-at-requires
+u16-at-requires c κs = search needs
+
+cast-result : tie.Need-cast-result
+cast-result c = search needs
+
+returns : tie.Need-returns
+unfolding raysIn
+returns c = (c .u16-at .ensures, search needs)
+
+pub rays-in-spec : {M : Type 1} → statement M
+rays-in-spec = tie.close (tie.spec u16-at-requires cast-result returns)
