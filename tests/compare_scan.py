@@ -1,11 +1,11 @@
 """The whole scan by the compiled library against the second program's: the answer and every number of every list."""
 import random
-from array import array
-from ctypes import POINTER, c_int64, c_size_t, c_uint8, c_uint16, c_uint32, c_uint64, sizeof
-from itertools import combinations, cycle, product
+from ctypes import POINTER, c_int64, c_size_t, c_uint32
+from itertools import combinations, product
 
 import library
-from good_scans import SEED, groups
+from good_scans import SEED, SHEET, groups
+from lent_lists import BY_QUALITY, GIVEN, HELD, MARGIN, earlier, filled_with, lending, with_margins
 from second_program import placement, scan as rules
 from second_program.placement import OUTSIDE, Hrap, Radolan
 from second_program.scan import Lent, Remapped, Scan
@@ -13,9 +13,7 @@ from wrong_scans import apply, limits, pairs, together
 
 SHOWN = 3  # places printed of one list
 
-# How the numbers of a list are held, by array's letters.
-HELD = {"I": c_uint32, "H": c_uint16, "B": c_uint8, "Q": c_uint64}
-GIVEN = {"azimuths": "I", "values": "H", "qualities": "B"}
+# By array's letters.
 WRITTEN = Lent("I", "I", "I", "Q", "H", "B")
 
 
@@ -32,37 +30,6 @@ def load():
     for function in (compiled.uldrevin_remap_radolan, compiled.uldrevin_remap_hrap):
         function.restype = c_uint32
     return compiled
-
-
-# A list is lent as the middle of a longer one, whose first and last numbers must stay.
-MARGIN = 8
-# What lent lists hold before a call. The length is a prime number, so that it does not repeat with the rows of a grid.
-CONTENTS = random.Random(SEED).randbytes(4_093)
-STARTS = cycle(range(0, len(CONTENTS), 5))
-
-
-def earlier(letter, length):
-    """A list with margins that holds the contents, repeated, from another start each time."""
-    held = array(letter)
-    assert held.itemsize == sizeof(HELD[letter])
-    size = (length + 2 * MARGIN) * held.itemsize
-    start = next(STARTS)
-    held.frombytes((CONTENTS * (size // len(CONTENTS) + 2))[start : start + size])
-    return held
-
-
-def with_margins(letter, numbers):
-    return array(letter, [0] * MARGIN) + array(letter, numbers) + array(letter, [0] * MARGIN)
-
-
-def lending(held):
-    """The pointer and the length that the library gets for a list with margins."""
-    length = len(held) - 2 * MARGIN
-    return (HELD[held.typecode] * length).from_buffer(held, MARGIN * held.itemsize), length
-
-
-# Anything but 0 means by quality.
-BY_QUALITY = cycle((1, 2, 256, 65_536, 2**31, 2**32 - 1))
 
 
 def answer(compiled, scan, lengths):
@@ -124,10 +91,7 @@ def differences_from(compiled, scan, lengths, expected):
     says = "by the rule" if expected.refusal == 0 else "before the call, which has to be refused"
     for place, name in enumerate(Lent._fields):
         old, got = before[place], after[place]
-        if expected.refusal == 0:
-            wanted = old[:MARGIN] + array(old.typecode, expected.lists[place]) + old[-MARGIN:]
-        else:
-            wanted = old
+        wanted = filled_with(old, expected.lists[place]) if expected.refusal == 0 else old
         lines += list_differences(scan, name, got, wanted, says)
     return lines
 
@@ -236,8 +200,6 @@ def refusals(compiled):
 
 # Document 01's cases. All numbers that are expected are written here by hand.
 
-# The sheet program's example; both gates lie in the second cell.
-SHEET = Scan(1, 2, 0, 100_000, 600_000, -1_050_000, Hrap(400, 932, 2, 1), True, [0], [1, 7], [90, 10])
 # At range 0 and on the meridian X is 0.
 ONE_GATE = Scan(1, 1, 0, 1, 600_000, -1_050_000, Hrap(401, 932, 1, 1), False, [0], [5], [50])
 RADOLAN_GATE = ONE_GATE._replace(latitude=510_000, longitude=100_000)

@@ -23,6 +23,9 @@ QUALITIES = ((0, 100), range(101), (100,), (0,), (0, 1, 99, 100))
 QUARTER_LINES = [(line + step) % TURN for line in range(0, TURN, QUARTER) for step in (-1, 0, 1)]
 PLACES = ("around the radar", "partly away", "wholly away")
 
+# The sheet program's example in document 01; both gates lie in the second cell.
+SHEET = Scan(1, 2, 0, 100_000, 600_000, -1_050_000, Hrap(400, 932, 2, 1), True, [0], [1, 7], [90, 10])
+
 
 def equal_azimuths(draw, rays):
     return [draw.randrange(TURN)] * rays

@@ -81,11 +81,12 @@ def main():
     count.note("the library is built from the proved archive", [] if status == 0 else lines[-SHOWN:])
     if status == 0:
         import compare_placement
+        import compare_record
         import compare_scan
         import compare_sine
         import compare_tables
 
-        for module in (compare_tables, compare_sine, compare_placement, compare_scan):
+        for module in (compare_tables, compare_sine, compare_placement, compare_scan, compare_record):
             compared(count, module)
     print(f"{count.passed} passed, {count.failed} failed")
     return 0 if count.failed == 0 and count.passed > 0 else 1

@@ -59,10 +59,17 @@ def lent_lengths(scan):
 # Refusals.
 
 
-def wrong_numbers(scan, lengths):
-    """All refusal numbers that apply, where the lists to be written have these lengths."""
-    given = (len(scan.azimuths), len(scan.values), len(scan.qualities))
-    exact = (scan.rays, scan.rays * scan.gates, scan.rays * scan.gates)
+def given_lengths(scan):
+    """The exact lengths of the lists that are given."""
+    return scan.rays, scan.rays * scan.gates, scan.rays * scan.gates
+
+
+def given_exact(scan):
+    return (len(scan.azimuths), len(scan.values), len(scan.qualities)) == given_lengths(scan)
+
+
+def wrong_numbers_where(scan, exact):
+    """All refusal numbers that apply, where the lengths of the lists are exact or not."""
     right = {
         1: 1 <= scan.rays <= 720,
         2: 1 <= scan.gates <= 1_000,
@@ -71,11 +78,16 @@ def wrong_numbers(scan, lengths):
         and centre(scan, scan.gates - 1) <= 46_000_000,
         4: 200_000 <= scan.latitude <= 750_000 and -1_800_000 <= scan.longitude <= 1_800_000,
         5: scan.grid.allowed(),
-        6: given == exact and lengths == lent_lengths(scan),
+        6: exact,
         7: all(0 <= azimuth <= 3_599_999 for azimuth in scan.azimuths),
         8: all(0 <= quality <= 100 for quality in scan.qualities),
     }
     return [number for number in right if not right[number]]
+
+
+def wrong_numbers(scan, lengths):
+    """All refusal numbers that apply, where the lists to be written have these lengths."""
+    return wrong_numbers_where(scan, given_exact(scan) and lengths == lent_lengths(scan))
 
 
 def refusal(scan, lengths):

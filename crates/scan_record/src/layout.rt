@@ -6,6 +6,15 @@ ghost use Prim.Native.Nat.{_<_, _≤_, _^_};
 ghost use Rattle.scan_record.specs.RecordPlaces.{raysIn, gatesIn, gridLength, contentLength, fieldStart, contentStart};
 ghost use Rattle.scan_record.specs.RecordRefusal.{kindAccepted, weightingAccepted, contentAccepted, fieldRefusal, layoutRefusal};
 
+// Document 01, "Refusal numbers": record cut short; tag isn't the next one; length, kind or weighting byte wrong; bytes after field 7.
+const CUT_SHORT: u32 = 11;
+
+const WRONG_TAG: u32 = 12;
+
+const WRONG_LENGTH: u32 = 13;
+
+const BYTES_AFTER: u32 = 14;
+
 pub fn rays_in(bytes: &[u8]) -> usize
     ensures { λ r. ⌜ r ≡ raysIn (now (bytes .entry)) ⌝ }
     ensures bounded { λ r. ⌜ r ≤ 65535 ⌝ }
@@ -108,19 +117,19 @@ fn field_refusal(bytes: &[u8], k: usize) -> u32
     let content = content_start(bytes, k);
     let length = content_length(bytes, k);
     if bytes.len() < content {
-        return 11;
+        return CUT_SHORT;
     }
     if byte_at(bytes, start) as usize != k + 1 {
-        return 12;
+        return WRONG_TAG;
     }
     if u16_at(bytes, start + 1) as usize != length {
-        return 13;
+        return WRONG_LENGTH;
     }
     if bytes.len() < content + length {
-        return 11;
+        return CUT_SHORT;
     }
     if !content_accepted(bytes, k) {
-        return 13;
+        return WRONG_LENGTH;
     }
     0
 }
@@ -138,7 +147,7 @@ pub fn layout_refusal(bytes: &[u8]) -> u32
         k += 1;
     }
     if bytes.len() != field_start(bytes, 7) {
-        return 14;
+        return BYTES_AFTER;
     }
     0
 }

@@ -24,7 +24,8 @@ pub fn u16_at(bytes: &[u8], at: usize) -> u16
     ensures { λ r. ⌜ r ≡ numberAt 2 (now (bytes .entry)) at ⌝ }
 {
     let high = byte_at(bytes, at) as u16;
-    high * 256 + byte_at(bytes, at + 1) as u16
+    let low = byte_at(bytes, at + 1) as u16;
+    high * 256 + low
 }
 
 pub fn u32_at(bytes: &[u8], at: usize) -> u32
@@ -73,8 +74,10 @@ pub fn put_u16(buffer: &mut [u8], at: usize, n: u32)
     requires { ⌜ at + 2 ≤ length (now buffer) ⌝ }
     ensures { λ _. ⌜ now (buffer .exit) ≡ sets (now (buffer .entry)) at (bytesOf 2 n) ⌝ }
 {
-    buffer[at] = (n / 256 % 256) as u8;
-    buffer[at + 1] = (n % 256) as u8;
+    let high = (n / 256 % 256) as u8;
+    let low = (n % 256) as u8;
+    buffer[at] = high;
+    buffer[at + 1] = low;
 }
 
 pub fn put_u32(buffer: &mut [u8], at: usize, n: u32)

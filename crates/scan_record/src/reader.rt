@@ -41,9 +41,9 @@ pub fn read_scan(
 {
     let head = head_in(bytes);
     let lists_exact = remap::lists_accepted(head, azimuths.len(), values.len(), qualities.len());
-    let number = record_refusal(bytes, lists_exact);
-    if number != 0 {
-        return ReadScan::Refused(number);
+    let refusal = record_refusal(bytes, lists_exact);
+    if refusal != 0 {
+        return ReadScan::Refused(refusal);
     }
     read_lists(bytes, azimuths, values, qualities);
     ReadScan::Head(head)

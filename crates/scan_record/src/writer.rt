@@ -33,9 +33,9 @@ pub fn write_scan(
 ) -> WrittenScan
     ensures { λ r. ⌜ Writing head (now (azimuths .entry)) (now (values .entry)) (now (qualities .entry)) (now (buffer .entry)) r (now (buffer .exit)) ⌝ }
 {
-    let number = write_refusal(head, azimuths, values, qualities, buffer.len());
-    if number != 0 {
-        return WrittenScan::Refused(number);
+    let refusal = write_refusal(head, azimuths, values, qualities, buffer.len());
+    if refusal != 0 {
+        return WrittenScan::Refused(refusal);
     }
     put_record(head, azimuths, values, qualities, buffer);
     WrittenScan::Length(record_length(head))

@@ -1,20 +1,20 @@
 -- `scan_record::numbers::put_u16` meets its contract. Assumes nothing.
 use native.Mathlib.Numerals.{add-one}
 use native.Mathlib.Omega.{arith}
-use borrow.Author.Needs.{needs}
 use lib.ListN.{length-set}
 use Rattle.scan_record.specs.BigEndian.{bytesOf}
+use borrow.Author.Needs.{needs}
 use Rattle.scan_record.proofs.numbers.put_u16.Statement.{statement}
 use Rattle.scan_record.proofs.numbers.put_u16.Tie as tie
 
-cast-buffer : tie.Need-cast-buffer
-cast-buffer c = search needs
+cast-high : tie.Need-cast-high
+cast-high c = search needs
+
+cast-low : tie.Need-cast-low
+cast-low c = search needs
 
 slice-write-buffer : tie.Need-slice-write-buffer
 slice-write-buffer c = search needs
-
-cast-buffer-2 : tie.Need-cast-buffer-2
-cast-buffer-2 c = search needs
 
 add-buffer : tie.Need-add-buffer
 add-buffer c = search needs
@@ -33,9 +33,9 @@ pub put-u16-spec : {M : Type 1} → statement M
 put-u16-spec =
     tie.close
     (tie.spec
-    cast-buffer
+    cast-high
+    cast-low
     slice-write-buffer
-    cast-buffer-2
     add-buffer
     slice-write-buffer-2
     same-length

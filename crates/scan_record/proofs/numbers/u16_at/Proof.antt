@@ -12,17 +12,17 @@ byte-at-requires c κs = search needs
 cast-high : tie.Need-cast-high
 cast-high c = search needs
 
-mul-result : tie.Need-mul-result
-mul-result c = search needs
-
 add-byte-at : tie.Need-add-byte-at
 add-byte-at c = search needs
 
 byte-at-requires-2 : tie.Need-byte-at-requires-2
 byte-at-requires-2 c κs = search needs
 
-cast-result : tie.Need-cast-result
-cast-result c = search needs
+cast-low : tie.Need-cast-low
+cast-low c = search needs
+
+mul-result : tie.Need-mul-result
+mul-result c = search needs
 
 add-result : tie.Need-add-result
 add-result c = search needs
@@ -36,9 +36,9 @@ u16-at-spec =
     (tie.spec
     byte-at-requires
     cast-high
-    mul-result
     add-byte-at
     byte-at-requires-2
-    cast-result
+    cast-low
+    mul-result
     add-result
     returns)
