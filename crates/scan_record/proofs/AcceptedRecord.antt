@@ -16,17 +16,8 @@ use Rattle.remap.proofs.AcceptedScan.{AcceptedNumbers, accepted-numbers, passed
 use Rattle.scan_record.specs.BigEndian.{numberAt}
 use Rattle.scan_record.specs.RecordBytes.{recordOf}
 use Rattle.scan_record.specs.RecordPlaces.{contentLength, fieldStart, contentStart, headIn, azimuthsIn, qualitiesIn}
-use Rattle.scan_record.specs.RecordRefusal.{_then_, contentAccepted, fieldRefusal, fieldsRefusal, layoutRefusal, recordRefusal, headRefusal, readRefusal, writeRefusal}
-
--- neither of two numbers is given
-pub then-none : (first second : ℕ) → (first then second) ≡ 0 → (first ≡ 0) × (second ≡ 0)
-unfolding _then_
-then-none zero second e = (refl, e)
-then-none (suc number) second e = absurd (omega arith)
-
-pub then-zero : {first second : ℕ} → first ≡ 0 → second ≡ 0 → (first then second) ≡ 0
-unfolding _then_
-then-zero {first} {second} e f = rw e f
+use Rattle.scan_record.specs.RecordRefusal.{contentAccepted, fieldRefusal, fieldsRefusal, layoutRefusal, recordRefusal, headRefusal, readRefusal, writeRefusal}
+use Rattle.scan_record.proofs.Then.{then-none, then-zero}
 
 -- ---- the layout
 

@@ -1,6 +1,6 @@
 -- The lengths of the seven fields' contents, of a field and of the whole record. Assumes nothing.
 use mathlib.Core.Path.{_≡_}
-use Prim.Native.Nat.{ℕ, zero, suc, _+_, _<_}
+use Prim.Native.Nat.{ℕ, zero, suc, _+_, _<_, _≤_}
 use mathlib.Core.List.{List}
 use native.Mathlib.Omega.{arith}
 use lib.ListN.{length, length-append}
@@ -41,6 +41,11 @@ pub grid-length : (grid : Grid) → length (gridBytes grid) ≡ gridLengthOf gri
 unfolding gridBytes gridLengthOf
 grid-length (Radolan g) = simp (length-append, bytes-length, signed-length)
 grid-length (Hrap g) = simp (length-append, bytes-length, signed-length)
+
+pub grid-length-most : (grid : Grid) → length (gridBytes grid) ≤ 17
+unfolding gridLengthOf
+grid-length-most (Radolan g) = omega (arith, grid-length (Radolan g))
+grid-length-most (Hrap g) = omega (arith, grid-length (Hrap g))
 
 -- ---- fields
 

@@ -9,6 +9,7 @@ use native.Mathlib.Omega.{arith}
 use Rattle.arithmetic.specs.Places.{sumTo}
 use Rattle.scan_record.specs.RecordPlaces.{contentLength, fieldStart}
 use Rattle.scan_record.specs.RecordRefusal.{_then_, contentAccepted, fieldRefusal, fieldsRefusal}
+use Rattle.scan_record.proofs.Then.{then-kept, then-next}
 
 -- there is no eighth field
 pub no-content : (bytes : List ℕ) (k : ℕ) → (k ≡ 0 → ⊥) → (k ≡ 1 → ⊥) → (k ≡ 2 → ⊥) → (k ≡ 3 → ⊥) → (k ≡ 4 → ⊥) → (k ≡ 5 → ⊥) → (k ≡ 6 → ⊥) → contentLength bytes k ≡ 0
@@ -38,22 +39,8 @@ other-content bytes (suc (suc (suc (suc k)))) a b = refl
 -- ---- one field after the other
 
 pub fields-step : (bytes : List ℕ) (k : ℕ) → fieldsRefusal bytes k ≡ 0 → fieldsRefusal bytes (k + 1) ≡ fieldRefusal bytes k
-unfolding fieldsRefusal _then_
-fields-step bytes k e = rw (add-one, e)
-
--- ---- refusals one after the other
-
-pub then-kept : {number first : ℕ} (second : ℕ) → number ≡ first → (number ≡ 0 → ⊥) → number ≡ (first then second)
-unfolding _then_
-then-kept {number} {first} second e wrong = go first e
-  where
-    go : (m : ℕ) → number ≡ m → number ≡ (m then second)
-    go zero q = absurd (wrong q)
-    go (suc m) q = q
-
-pub then-next : {first : ℕ} (second : ℕ) → first ≡ 0 → (first then second) ≡ second
-unfolding _then_
-then-next second e = rw e
+unfolding fieldsRefusal
+fields-step bytes k e = rw add-one (then-next _ e)
 
 -- a field that is refused gives the number, whatever comes behind it
 fields-kept : (bytes : List ℕ) (n more number : ℕ) → number ≡ fieldsRefusal bytes n → (number ≡ 0 → ⊥) → number ≡ fieldsRefusal bytes (more + n)

@@ -1,6 +1,7 @@
 pub mod StandsAt
 pub mod BigEndianLaws
 pub mod SetsLaws
+pub mod Then
 pub mod ReadNumbers
 pub mod LayoutSteps
 pub mod ContentLengths
@@ -14,3 +15,4 @@ pub mod ReadThenWrite
 pub mod FieldContents
 pub mod ContentsRead
 pub mod WriteThenRead
+pub mod RoundTrips

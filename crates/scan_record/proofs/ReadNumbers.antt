@@ -1,7 +1,7 @@
 -- Numbers of one, two and four bytes, as the code puts them together, and their two's complement. Assumes nothing.
 use mathlib.Core.Bool.{Bool, true, false, cond}
 use mathlib.Core.List.{List}
-use mathlib.Core.Path.{_≡_, sym, ap, _∙_}
+use mathlib.Core.Path.{_≡_, ap, _∙_}
 use Prim.Native.Nat.{ℕ, suc, _+_, _-_, _*_, _/_, _<_, _≤_}
 use native.Mathlib.Nat.{add-zero, add-assoc, one-mul}
 use native.Mathlib.Omega.{arith}

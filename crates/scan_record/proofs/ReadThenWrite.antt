@@ -20,7 +20,8 @@ use Rattle.scan_record.proofs.StandsAt.{Stands, stands-moved, stands-ne
 use Rattle.scan_record.proofs.BigEndianLaws.{bytes-length, signed-length, all-bytes-length, numbers-length, byte-written, number-small, number-written, numbers-written, signed-number-written}
 use Rattle.scan_record.proofs.FieldStands.{startAmong, field-written, fields-written, fields-length, same-starts}
 use Rattle.scan_record.proofs.ContentLengths.{each-field, site-length, gates-length, gridLengthOf, grid-length}
-use Rattle.scan_record.proofs.AcceptedRecord.{AcceptedField, AcceptedLayout, then-zero, accepted-record}
+use Rattle.scan_record.proofs.AcceptedRecord.{AcceptedField, AcceptedLayout, accepted-record}
+use Rattle.scan_record.proofs.Then.{then-zero}
 
 -- ---- single contents
 

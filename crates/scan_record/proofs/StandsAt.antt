@@ -18,9 +18,6 @@ stands-none at bytes = record { same = refl }
 pub stands-whole : (bytes : List ℕ) → Stands bytes 0 bytes
 stands-whole bytes = record { same = take-length bytes }
 
-pub stands-first : (piece rest : List ℕ) → Stands piece 0 (piece ++ rest)
-stands-first piece rest = record { same = take-append-seam piece rest }
-
 -- the byte at a place
 pub stands-one : (at : ℕ) (bytes : List ℕ) → at < length bytes → Stands (getD bytes at 0 ∷ []) at bytes
 stands-one at bytes h = record { same = rw (drop-cons bytes at 0 h) }

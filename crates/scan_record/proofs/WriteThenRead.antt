@@ -19,18 +19,14 @@ use Rattle.remap.proofs.AcceptedScan.{AcceptedLists, accepted-lists}
 use Rattle.scan_record.specs.BigEndian.{numberAt, numbersAt}
 use Rattle.scan_record.specs.RecordBytes.{gridBytes, contentsOf, fieldBytes, recordOf}
 use Rattle.scan_record.specs.RecordPlaces.{gridLength, raysIn, gatesIn, contentLength, fieldStart, contentStart, headIn, azimuthsIn, valuesIn, qualitiesIn}
-use Rattle.scan_record.specs.RecordRefusal.{_then_, weightingAccepted, contentAccepted, recordRefusal, headRefusal, readRefusal, writeRefusal}
+use Rattle.scan_record.specs.RecordRefusal.{weightingAccepted, contentAccepted, recordRefusal, headRefusal, readRefusal, writeRefusal}
 use Rattle.scan_record.proofs.StandsAt.{Stands, stands-moved, stands-whole, stands-within}
 use Rattle.scan_record.proofs.BigEndianLaws.{bytes-length, all-bytes-length, numbers-read}
 use Rattle.scan_record.proofs.FieldStands.{FieldAt, field-read, startAmong, fields-length, fields-read, same-starts}
-use Rattle.scan_record.proofs.ContentLengths.{each-field, field-length, site-length, gates-length, gridLengthOf, grid-length}
+use Rattle.scan_record.proofs.ContentLengths.{each-field, field-length, site-length, gates-length, gridLengthOf, grid-length, grid-length-most}
 use Rattle.scan_record.proofs.ContentsRead.{GatesRead, site-read, gates-are-read, grid-read, kind-read, weighting-read}
 use Rattle.scan_record.proofs.AcceptedRecord.{AcceptedField, AcceptedLayout, AcceptedWriting, accepted-writing, layout-none}
-
-grid-length-most : (grid : Grid) → gridLengthOf grid ≤ 17
-unfolding gridLengthOf
-grid-length-most (Radolan g) = omega arith
-grid-length-most (Hrap g) = omega arith
+use Rattle.scan_record.proofs.Then.{then-next}
 
 -- the length that is read is the grid's
 grid-length-read : (grid : Grid) (bytes : List ℕ) → numberAt 2 bytes 27 ≡ gridLengthOf grid → gridLength bytes ≡ gridLengthOf grid
@@ -62,7 +58,7 @@ module _ (head : ScanHead) (azimuths values qualities : List ℕ) where
   sizes-small : head .rays ≤ 720 → gatesOf head ≤ 32767 → (k : ℕ) → k < 7 → getD sizes k 0 < 65536
   sizes-small rays gates =
       each-field (λ k. getD sizes k 0 < 65536)
-      (omega arith) (omega arith) (omega (arith, grid-length-most (head .grid))) (omega arith) (omega arith) (omega arith) (omega arith)
+      (omega arith) (omega arith) (omega (arith, grid-length-most (head .grid), grid-length (head .grid))) (omega arith) (omega arith) (omega arith) (omega arith)
 
   first-starts : (startAmong contents 0 ≡ 0) × (startAmong contents 1 ≡ 11) × (startAmong contents 2 ≡ 26)
   unfolding startAmong sumTo contentsOf
@@ -195,8 +191,8 @@ module _ (head : ScanHead) (azimuths values qualities : List ℕ) where
 
     -- the reader's refusal is the scan's
     refusal-back : (exact : Bool) → recordRefusal bytes exact ≡ scanNumber head exact (allOf azimuthAccepted azimuths) (allOf qualityAccepted qualities)
-    unfolding recordRefusal _then_
-    refusal-back exact = rw (layout-none bytes layout-good, head-back, azimuths-back, qualities-back)
+    unfolding recordRefusal
+    refusal-back exact = then-next _ (layout-none bytes layout-good) ∙ rw (head-back, azimuths-back, qualities-back)
 
 -- ---- a written scan
 

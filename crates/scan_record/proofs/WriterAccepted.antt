@@ -1,5 +1,5 @@
 -- What the writer knows of an accepted site, grid and scan. Assumes nothing.
-use mathlib.Core.Path.{_≡_, refl, ap, _∙_}
+use mathlib.Core.Path.{_≡_, refl, sym, ap, _∙_}
 use mathlib.Core.Bool.{true}
 use mathlib.Core.List.{List, _++_}
 use Prim.Native.Nat.{ℕ, zero, suc, _<_, _≤_}
@@ -24,11 +24,12 @@ use Rattle.remap.proofs.AcceptedScan.{AcceptedLists, accepted-lists, accepted-n
 use Rattle.scan_record.specs.declared.writer.WrittenScan.the-variants.{Length, Refused}
 use Rattle.scan_record.specs.RecordAnswer.{writtenAnswer}
 use Rattle.scan_record.specs.RecordBytes.{recordOf}
-use Rattle.scan_record.specs.RecordRefusal.{_then_, writeRefusal}
+use Rattle.scan_record.specs.RecordRefusal.{writeRefusal}
 use Rattle.scan_record.specs.RecordRoom.{recordLength, Writable}
 use Rattle.scan_record.proofs.AcceptedRecord.{accepted-writing}
 use Rattle.scan_record.proofs.ContentLengths.{record-length}
 use Rattle.scan_record.proofs.SetsLaws.{sets-start}
+use Rattle.scan_record.proofs.Then.{then-kept, then-next}
 
 -- ---- signed numbers in words of 64 bits
 
@@ -49,12 +50,6 @@ longitude-limit site e = accepted-site site e .longitude
 
 -- ---- the writer's refusal
 
--- the first of two refusals
-then-first : (first second : ℕ) → (first ≡ 0 → ⊥) → first ≡ (first then second)
-unfolding _then_
-then-first zero second wrong = absurd (wrong refl)
-then-first (suc n) second wrong = refl
-
 -- the number of the scan itself, 1 to 8
 abbrev pub scanNumberOf : ScanHead → List ℕ → List ℕ → List ℕ → ℕ
 scanNumberOf head azimuths values qualities =
@@ -72,19 +67,19 @@ module _ (head : ScanHead) (azimuths values qualities : List ℕ) where
 
   pub refused-scan : (room : ℕ) → (scanNumberOf head azimuths values qualities ≡ 0 → ⊥) → scanNumberOf head azimuths values qualities ≡ writeRefusal head azimuths values qualities room
   unfolding writeRefusal
-  refused-scan room wrong = then-first (scanNumberOf head azimuths values qualities) _ wrong
+  refused-scan room wrong = then-kept _ refl wrong
 
   pub refused-gates : (room : ℕ) → scanNumberOf head azimuths values qualities ≡ 0 → 32767 < gatesOf head → 15 ≡ writeRefusal head azimuths values qualities room
-  unfolding writeRefusal _then_ firstRefusal
-  refused-gates room e h = simp (e, lt-leb (gatesOf head) 32767 h)
+  unfolding writeRefusal firstRefusal
+  refused-gates room e h = sym (then-next _ e ∙ rw (lt-leb (gatesOf head) 32767 h))
 
   pub refused-room : (room : ℕ) → scanNumberOf head azimuths values qualities ≡ 0 → gatesOf head ≤ 32767 → room < recordLength head → 16 ≡ writeRefusal head azimuths values qualities room
-  unfolding writeRefusal _then_ firstRefusal
-  refused-room room e h k = simp (e, le-leb (gatesOf head) 32767 h, length-known e, lt-leb (recordLength head) room k)
+  unfolding writeRefusal firstRefusal
+  refused-room room e h k = sym (then-next _ e ∙ rw (le-leb (gatesOf head) 32767 h, length-known e, lt-leb (recordLength head) room k))
 
   pub not-refused : (room : ℕ) → scanNumberOf head azimuths values qualities ≡ 0 → gatesOf head ≤ 32767 → recordLength head ≤ room → 0 ≡ writeRefusal head azimuths values qualities room
-  unfolding writeRefusal _then_ firstRefusal
-  not-refused room e h k = simp (e, le-leb (gatesOf head) 32767 h, length-known e, le-leb (recordLength head) room k)
+  unfolding writeRefusal firstRefusal
+  not-refused room e h k = sym (then-next _ e ∙ rw (le-leb (gatesOf head) 32767 h, length-known e, le-leb (recordLength head) room k))
 
   -- what is not refused may be written
   pub writable : (room : ℕ) → writeRefusal head azimuths values qualities room ≡ 0 → Writable head azimuths values qualities room

@@ -6,13 +6,11 @@ use native.Mathlib.Nat.{div-div-eq-div-mul}
 use native.Mathlib.Omega.{arith}
 use lib.ListN.{length, getD, take}
 use lib.Seq.{sets, take-all, length-take-le}
-use Rattle.placement.specs.declared.grid.Grid.{Grid}
-use Rattle.placement.specs.declared.grid.Grid.the-variants.{Radolan, Hrap}
 use Rattle.remap.specs.declared.scan.ScanHead.{ScanHead}
 use Rattle.scan_record.specs.BigEndian.{bytesOf, allBytesOf}
 use Rattle.scan_record.specs.RecordBytes.{siteBytes, gatesBytes, gridBytes, weightingByte, contentsOf, headerBytes, fieldBytes, fieldsBytes, recordOf}
 use Rattle.scan_record.proofs.BigEndianLaws.{bytes-length, all-bytes-length, all-bytes-more}
-use Rattle.scan_record.proofs.ContentLengths.{site-length, gates-length, gridLengthOf, grid-length, field-length}
+use Rattle.scan_record.proofs.ContentLengths.{site-length, gates-length, field-length}
 use Rattle.scan_record.proofs.SetsLaws.{sets-append}
 
 -- a second piece right behind the first
@@ -27,11 +25,6 @@ four-bytes n = simp div-div-eq-div-mul
 pub four-stored : (a : List ℕ) (at n : ℕ) {b c : List ℕ} → b ≡ sets a at (bytesOf 2 (n / 65536)) → c ≡ sets b (at + 2) (bytesOf 2 n) → c ≡ sets a at (bytesOf 4 n)
 four-stored a at n e f =
     sets-then a at (bytesOf 2 (n / 65536)) (bytesOf 2 n) e (ap (λ (k : ℕ). at + k) (sym (bytes-length 2 (n / 65536)))) f ∙ ap (sets a at) (four-bytes n)
-
-pub grid-length-most : (grid : Grid) → length (gridBytes grid) ≤ 17
-unfolding gridLengthOf
-grid-length-most (Radolan g) = omega (arith, grid-length (Radolan g))
-grid-length-most (Hrap g) = omega (arith, grid-length (Hrap g))
 
 -- ---- a header, and a field behind its header
 

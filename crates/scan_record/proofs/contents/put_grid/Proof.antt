@@ -38,7 +38,8 @@ same-length c = search needs
 returns : tie.Need-returns
 returns c =
     let start = c .before .before .before .before .before .before .before .before in
-    c .before .before .put-radolan .ensures ∙ ap (λ (grid : Grid). sets (start .args .buffer .now) 26 (fieldBytes 3 (gridBytes grid))) (sym (c .before .before .before .before .before .grid .given .1))
+    c .before .before .put-radolan .ensures
+    ∙ ap (λ (grid : Grid). sets (start .args .buffer .now) 26 (fieldBytes 3 (gridBytes grid))) (sym (c .before .before .before .before .before .grid .given .1))
 
 same-length-2 : tie.Need-same-length-2
 same-length-2 c = search needs
@@ -46,7 +47,8 @@ same-length-2 c = search needs
 returns-2 : tie.Need-returns-2
 returns-2 c =
     let start = c .before .before .before .before .before .before .before .before in
-    c .before .before .put-hrap .ensures ∙ ap (λ (grid : Grid). sets (start .args .buffer .now) 26 (fieldBytes 3 (gridBytes grid))) (sym (c .before .before .before .before .before .grid2 .given .1))
+    c .before .before .put-hrap .ensures
+    ∙ ap (λ (grid : Grid). sets (start .args .buffer .now) 26 (fieldBytes 3 (gridBytes grid))) (sym (c .before .before .before .before .before .grid2 .given .1))
 
 pub put-grid-spec : {M : Type 1} → statement M
 put-grid-spec =

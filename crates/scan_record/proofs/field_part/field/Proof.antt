@@ -18,7 +18,9 @@ end-inside : (c : tie.After-content-length) → c .before .content-start .result
 end-inside c =
     let good = c .before .before in
     let s = good .before .before .before .before .before in
-    omega (arith, part-inside (s .args .bytes .now) (s .args .number) (omega (arith, good .before .before .before .if1 .left)) (good .before .before .if2 .left) (accepted good), c .before .content-start .ensures .0, c .content-length .ensures .0)
+    let least : 1 ≤ s .args .number = omega (arith, good .before .before .before .if1 .left) in
+    let inside = part-inside (s .args .bytes .now) (s .args .number) least (good .before .before .if2 .left) (accepted good) in
+    omega (arith, inside, c .before .content-start .ensures .0, c .content-length .ensures .0)
 
 sub-result : tie.Need-sub-result
 sub-result c = search needs
@@ -79,7 +81,10 @@ part-result-end-4 : tie.Need-part-result-end-4
 part-result-end-4 c = end-inside c
 
 returns-4 : tie.Need-returns-4
-returns-4 c = part-between _ _ _ (c .before .before .content-start .ensures .0) (c .before .content-length .ensures .0) ∙ part-given _ _ (c .before .before .before .before .before .before .if1 .left) (c .before .before .before .before .before .if2 .left) (accepted (c .before .before .before))
+returns-4 c =
+    let good = c .before .before .before in
+    part-between _ _ _ (c .before .before .content-start .ensures .0) (c .before .content-length .ensures .0)
+    ∙ part-given _ _ (good .before .before .before .if1 .left) (good .before .before .if2 .left) (accepted good)
 
 pub field-spec : {M : Type 1} → statement M
 field-spec =

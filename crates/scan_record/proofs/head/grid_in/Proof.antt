@@ -33,8 +33,18 @@ cast-t10 c = search needs
 
 returns : tie.Need-returns
 unfolding gridIn
-returns c = simp
-    (eq-eqb _ 17 (sym (c .before .before .before .before .before .before .grid-length .ensures .0) ∙ c .before .before .before .before .before .if1 .taken), read-result (c .before .before .before .before .i32-at .ok) (c .before .before .before .before .i32-at .ensures), read-result (c .before .before .before .i32-at2 .ok) (c .before .before .before .i32-at2 .ensures), c .before .before .u32-at .ensures, c .before .u16-at .ensures, c .u16-at2 .ensures)
+returns c =
+    let y = c .before .before .before in
+    let x = y .before in
+    let kind = x .before in
+    simp (
+      eq-eqb _ 17 (sym (kind .before .grid-length .ensures .0) ∙ kind .if1 .taken),
+      read-result (x .i32-at .ok) (x .i32-at .ensures),
+      read-result (y .i32-at2 .ok) (y .i32-at2 .ensures),
+      c .before .before .u32-at .ensures,
+      c .before .u16-at .ensures,
+      c .u16-at2 .ensures,
+    )
 
 i16-at-requires : tie.Need-i16-at-requires
 i16-at-requires c κs = search needs
@@ -56,8 +66,17 @@ cast-t17 c = search needs
 
 returns-2 : tie.Need-returns-2
 unfolding gridIn
-returns-2 c = simp
-    (ne-eqb _ 17 (λ e. c .before .before .before .before .if1 .left (c .before .before .before .before .before .grid-length .ensures .0 ∙ e)), read-result (c .before .before .before .i16-at .ok) (c .before .before .before .i16-at .ensures), read-result (c .before .before .i16-at2 .ok) (c .before .before .i16-at2 .ensures), c .before .u16-at3 .ensures, c .u16-at4 .ensures)
+returns-2 c =
+    let j = c .before .before in
+    let i = j .before in
+    let kind = i .before in
+    simp (
+      ne-eqb _ 17 (λ e. kind .if1 .left (kind .before .grid-length .ensures .0 ∙ e)),
+      read-result (i .i16-at .ok) (i .i16-at .ensures),
+      read-result (j .i16-at2 .ok) (j .i16-at2 .ensures),
+      c .before .u16-at3 .ensures,
+      c .u16-at4 .ensures,
+    )
 
 pub grid-in-spec : {M : Type 1} → statement M
 grid-in-spec =

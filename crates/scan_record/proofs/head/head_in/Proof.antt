@@ -1,8 +1,5 @@
 -- `scan_record::head::head_in` meets its contract. Assumes nothing.
-use mathlib.Core.Path.{ap, _∙_}
-use Prim.Native.Nat.{ℕ}
-use lib.ListN.{getD}
-use Rattle.scan_record.specs.RecordPlaces.{weightingOf, headIn}
+use Rattle.scan_record.specs.RecordPlaces.{headIn}
 use borrow.Author.Needs.{needs}
 use Rattle.scan_record.proofs.head.head_in.Statement.{statement}
 use Rattle.scan_record.proofs.head.head_in.Tie as tie
@@ -42,8 +39,19 @@ grid-in-requires c κs = search needs
 
 returns : tie.Need-returns
 unfolding headIn
-returns c = simp
-    (c .before .before .before .before .before .site-in .ensures, c .before .before .before .before .u16-at .ensures, c .before .before .before .u16-at2 .ensures, c .before .before .u32-at .ensures, c .before .u32-at2 .ensures, c .grid-in .ensures, c .before .before .before .before .before .before .weighting-of .ensures, c .before .before .before .before .before .before .before .byte-at .ensures, c .before .before .before .before .before .before .before .before .content-start .ensures .0)
+returns c =
+    let site = c .before .before .before .before .before in
+    simp (
+      site .site-in .ensures,
+      c .before .before .before .before .u16-at .ensures,
+      c .before .before .before .u16-at2 .ensures,
+      c .before .before .u32-at .ensures,
+      c .before .u32-at2 .ensures,
+      c .grid-in .ensures,
+      site .before .weighting-of .ensures,
+      site .before .before .byte-at .ensures,
+      site .before .before .before .content-start .ensures .0,
+    )
 
 pub head-in-spec : {M : Type 1} → statement M
 head-in-spec =

@@ -1,7 +1,6 @@
 -- `scan_record::head::weighting_of` meets its contract. Assumes nothing.
 use borrow.Author.Tests.{eq-eqb, ne-eqb}
 use Rattle.scan_record.specs.RecordPlaces.{weightingOf}
-use borrow.Author.Needs.{needs}
 use Rattle.scan_record.proofs.head.weighting_of.Statement.{statement}
 use Rattle.scan_record.proofs.head.weighting_of.Tie as tie
 

@@ -44,11 +44,17 @@ returns-4 c = (ap (contentLength (c .before .before .args .bytes .now)) (sym (c 
 
 returns-5 : tie.Need-returns-5
 unfolding contentLength
-returns-5 c = (ap (λ (rays : ℕ). 4 * rays) (c .rays-in .ensures .0) ∙ ap (contentLength (c .before .before .before .args .bytes .now)) (sym (c .before .match .keys5)), omega (arith, c .rays-in .ensures .1))
+returns-5 c = (
+  ap (λ (rays : ℕ). 4 * rays) (c .rays-in .ensures .0) ∙ ap (contentLength (c .before .before .before .args .bytes .now)) (sym (c .before .match .keys5)),
+  omega (arith, c .rays-in .ensures .1),
+)
 
 returns-6 : tie.Need-returns-6
 unfolding contentLength
-returns-6 c = (ap (λ (gates : ℕ). 2 * gates) (c .gates-in .ensures .0) ∙ ap (contentLength (c .before .before .before .args .bytes .now)) (sym (c .before .match .keys6)), omega (arith, c .gates-in .ensures .1))
+returns-6 c = (
+  ap (λ (gates : ℕ). 2 * gates) (c .gates-in .ensures .0) ∙ ap (contentLength (c .before .before .before .args .bytes .now)) (sym (c .before .match .keys6)),
+  omega (arith, c .gates-in .ensures .1),
+)
 
 returns-7 : tie.Need-returns-7
 unfolding contentLength

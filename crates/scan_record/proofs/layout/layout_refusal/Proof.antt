@@ -1,12 +1,13 @@
 -- `scan_record::layout::layout_refusal` meets its contract: the first field that is refused gives the number. Assumes nothing.
 use mathlib.Core.Path.{_≡_, refl, sym, ap, _∙_}
-use Prim.Native.Nat.{ℕ, _-_, _≤_}
+use Prim.Native.Nat.{_-_, _≤_}
 use native.Mathlib.Nat.{le-antisymm}
 use borrow.Author.Needs.{needs}
 use borrow.Author.Tests.{eq-eqb, ne-eqb}
 use Rattle.placement.specs.Refusal.{firstRefusal}
-use Rattle.scan_record.specs.RecordRefusal.{_then_, fieldsRefusal, layoutRefusal}
+use Rattle.scan_record.specs.RecordRefusal.{fieldsRefusal, layoutRefusal}
 use Rattle.scan_record.proofs.LayoutSteps.{fields-step, fields-stop}
+use Rattle.scan_record.proofs.Then.{then-next}
 use Rattle.scan_record.proofs.layout.layout_refusal.Statement.{statement}
 use Rattle.scan_record.proofs.layout.layout_refusal.Tie as tie
 
@@ -50,12 +51,12 @@ field-start-requires : tie.Need-field-start-requires Inv-loop μ-loop
 field-start-requires c κs = search needs
 
 returns-2 : tie.Need-returns-2 Inv-loop μ-loop
-unfolding layoutRefusal _then_ firstRefusal
-returns-2 c = simp (all-passed (c .before .before), ne-eqb _ _ (λ e. c .if2 .taken (e ∙ sym (c .before .field-start .ensures .0))))
+unfolding layoutRefusal firstRefusal
+returns-2 c = sym (then-next _ (all-passed (c .before .before)) ∙ rw (ne-eqb _ _ (λ e. c .if2 .taken (e ∙ sym (c .before .field-start .ensures .0)))))
 
 returns-3 : tie.Need-returns-3 Inv-loop μ-loop
-unfolding layoutRefusal _then_ firstRefusal
-returns-3 c = simp (all-passed (c .before .before), eq-eqb _ _ (c .if2 .left ∙ c .before .field-start .ensures .0))
+unfolding layoutRefusal firstRefusal
+returns-3 c = sym (then-next _ (all-passed (c .before .before)) ∙ rw (eq-eqb _ _ (c .if2 .left ∙ c .before .field-start .ensures .0)))
 
 pub layout-refusal-spec : {M : Type 1} → statement M
 layout-refusal-spec =

@@ -1,5 +1,4 @@
 -- `scan_record::layout::rays_in` meets its contract. Assumes nothing.
-use native.Mathlib.Omega.{arith}
 use Rattle.scan_record.specs.RecordPlaces.{raysIn}
 use borrow.Author.Needs.{needs}
 use Rattle.scan_record.proofs.layout.rays_in.Statement.{statement}

@@ -1,7 +1,6 @@
 -- `scan_record::reader::read_head` meets its contract. Assumes nothing.
 use mathlib.Core.Path.{sym, ap, _∙_}
 use Rattle.scan_record.specs.RecordRefusal.{headRefusal}
-use Rattle.scan_record.specs.RecordAnswer.{readAnswer}
 use Rattle.scan_record.specs.declared.reader.ReadScan.the-variants.{Head}
 use Rattle.scan_record.proofs.ReadAnswers.{refused-read, head-read}
 use borrow.Author.Needs.{needs}

@@ -35,13 +35,20 @@ same-length-3 : tie.Need-same-length-3
 same-length-3 c = search needs
 
 returns : tie.Need-returns
-returns c = let given = c .before .before .before .before .before .before .before .before .before .before .before .before .before .before .before .before .before .before .before .args in (
-  c .before .before .before .before .before .before .before .before .before .before .before .before .read-azimuths .ensures ∙ ap (λ (start : ℕ). numbersAt 4 (given .bytes .now) start (length (given .azimuths .now))) (c .before .before .before .before .before .before .before .before .before .before .before .before .before .before .content-start .ensures .0),
-  (
-    c .before .before .before .before .before .before .before .read-values .ensures ∙ ap (λ (start : ℕ). numbersAt 2 (given .bytes .now) start (length (given .values .now))) (c .before .before .before .before .before .before .before .before .before .content-start2 .ensures .0),
-    c .before .before .read-qualities .ensures ∙ ap (λ (start : ℕ). numbersAt 1 (given .bytes .now) start (length (given .qualities .now))) (c .before .before .before .before .content-start3 .ensures .0),
-  ),
-)
+returns c =
+    let qualities = c .before .before in
+    let values = qualities .before .before .before .before .before in
+    let azimuths = values .before .before .before .before .before in
+    let given = azimuths .before .before .before .before .before .before .before .args in (
+      azimuths .read-azimuths .ensures
+          ∙ ap (λ (start : ℕ). numbersAt 4 (given .bytes .now) start (length (given .azimuths .now))) (azimuths .before .before .content-start .ensures .0),
+      (
+        values .read-values .ensures
+            ∙ ap (λ (start : ℕ). numbersAt 2 (given .bytes .now) start (length (given .values .now))) (values .before .before .content-start2 .ensures .0),
+        qualities .read-qualities .ensures
+            ∙ ap (λ (start : ℕ). numbersAt 1 (given .bytes .now) start (length (given .qualities .now))) (qualities .before .before .content-start3 .ensures .0),
+      ),
+    )
 
 pub read-lists-spec : {M : Type 1} → statement M
 read-lists-spec =

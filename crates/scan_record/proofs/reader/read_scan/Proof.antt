@@ -4,7 +4,7 @@ use Prim.Native.Nat.{ℕ}
 use native.Mathlib.Omega.{arith}
 use Rattle.remap.proofs.ScanAnswer.{kept, filled}
 use Rattle.scan_record.specs.BigEndian.{numbersAt}
-use Rattle.scan_record.specs.RecordPlaces.{contentStart, headIn, azimuthsIn, valuesIn, qualitiesIn}
+use Rattle.scan_record.specs.RecordPlaces.{azimuthsIn, valuesIn, qualitiesIn}
 use Rattle.scan_record.specs.RecordRefusal.{recordRefusal, readRefusal}
 use Rattle.scan_record.specs.declared.reader.ReadScan.the-variants.{Head}
 use Rattle.scan_record.proofs.ReadAnswers.{KnownLists, known-lists, refused-read, head-read}

@@ -1,7 +1,6 @@
 -- `scan_record::reader::read_values` meets its contract: below place k the values are those of the record. Assumes nothing.
-use mathlib.Core.List.{List}
 use mathlib.Core.Path.{_≡_, ap, _∙_}
-use Prim.Native.Nat.{ℕ, _+_, _-_, _*_, _≤_, zero-le}
+use Prim.Native.Nat.{_+_, _-_, _*_, _≤_, zero-le}
 use native.Mathlib.Omega.{arith}
 use borrow.Author.Needs.{needs}
 use lib.ListN.{length}

@@ -1,15 +1,13 @@
 -- `scan_record::refusal::azimuths_accepted` meets its contract. Assumes nothing.
-use mathlib.Core.List.{List}
 use mathlib.Core.Path.{_≡_, refl, sym, ap, ap₂, _∙_}
-use mathlib.Core.Bool.{Bool, true, false}
-use Prim.Native.Nat.{ℕ, _+_, _-_, _*_, _≤_}
+use Prim.Native.Nat.{ℕ, _-_, _≤_}
 use native.Mathlib.Omega.{arith}
 use borrow.Author.Needs.{needs}
 use borrow.Author.Tests.{not-true, not-false}
 use lib.ListN.{drop}
 use Rattle.arithmetic.specs.Places.{allOf}
 use Rattle.placement.specs.Refusal.{azimuthAccepted}
-use Rattle.scan_record.specs.BigEndian.{numberAt, numbersAt}
+use Rattle.scan_record.specs.BigEndian.{numbersAt}
 use Rattle.scan_record.specs.RecordPlaces.{azimuthsIn}
 use Rattle.scan_record.proofs.ReadNumbers.{tested-step, tested-stop, tested-end}
 use Rattle.scan_record.proofs.refusal.azimuths_accepted.Statement.{statement}
@@ -52,7 +50,9 @@ azimuth-accepted-requires c κs = search needs
 returns : tie.Need-returns Inv-loop μ-loop
 returns c =
     let turn = c .before .before .before in
-    tested-stop azimuthAccepted 4 _ _ _ _ _ (turn .loop-test .taken) (ap azimuthAccepted (sym (c .before .before .u32-at .ensures)) ∙ sym (c .before .azimuth-accepted .ensures) ∙ not-true _ (c .if1 .taken)) (turn .before .loop .inv .1)
+    tested-stop azimuthAccepted 4 _ _ _ _ _ (turn .loop-test .taken)
+    (ap azimuthAccepted (sym (c .before .before .u32-at .ensures)) ∙ sym (c .before .azimuth-accepted .ensures) ∙ not-true _ (c .if1 .taken))
+    (turn .before .loop .inv .1)
     ∙ ap (allOf azimuthAccepted) (sym (azimuths-are (turn .before .before)))
 
 add-k : tie.Need-add-k Inv-loop μ-loop
@@ -63,8 +63,12 @@ loop-less c = search needs
 
 loop-again : tie.Need-loop-again Inv-loop μ-loop
 loop-again c =
-    let turn = c .before .before .before in
-    (search needs, tested-step azimuthAccepted 4 _ _ _ _ _ (turn .loop-test .taken) (ap azimuthAccepted (sym (c .before .before .u32-at .ensures)) ∙ sym (c .before .azimuth-accepted .ensures) ∙ not-false _ (c .if1 .left)) (turn .before .loop .inv .1))
+    let turn = c .before .before .before in (
+      search needs,
+      tested-step azimuthAccepted 4 _ _ _ _ _ (turn .loop-test .taken)
+          (ap azimuthAccepted (sym (c .before .before .u32-at .ensures)) ∙ sym (c .before .azimuth-accepted .ensures) ∙ not-false _ (c .if1 .left))
+          (turn .before .loop .inv .1),
+    )
 
 returns-2 : tie.Need-returns-2 Inv-loop μ-loop
 returns-2 c =

@@ -1,15 +1,13 @@
 -- `scan_record::refusal::qualities_accepted` meets its contract. Assumes nothing.
-use mathlib.Core.List.{List}
 use mathlib.Core.Path.{_≡_, refl, sym, ap, ap₂, _∙_}
-use mathlib.Core.Bool.{Bool, true, false}
-use Prim.Native.Nat.{ℕ, _+_, _-_, _*_, _≤_}
+use Prim.Native.Nat.{ℕ, _-_, _≤_}
 use native.Mathlib.Omega.{arith}
 use borrow.Author.Needs.{needs}
 use borrow.Author.Tests.{lt-leb, le-leb}
 use lib.ListN.{drop}
 use Rattle.arithmetic.specs.Places.{allOf}
 use Rattle.remap.specs.Scan.{qualityAccepted}
-use Rattle.scan_record.specs.BigEndian.{numberAt, numbersAt}
+use Rattle.scan_record.specs.BigEndian.{numbersAt}
 use Rattle.scan_record.specs.RecordPlaces.{qualitiesIn}
 use Rattle.scan_record.proofs.ReadNumbers.{tested-step, tested-stop, tested-end, byte-in-list}
 use Rattle.scan_record.proofs.refusal.qualities_accepted.Statement.{statement}
@@ -47,7 +45,9 @@ returns : tie.Need-returns Inv-loop μ-loop
 unfolding qualityAccepted
 returns c =
     let turn = c .before .before in
-    tested-stop qualityAccepted 1 _ _ _ _ _ (turn .loop-test .taken) (ap qualityAccepted (byte-in-list _ _ _ ∙ sym (c .before .byte-at .ensures)) ∙ lt-leb _ _ (c .if1 .taken)) (turn .before .loop .inv .1)
+    tested-stop qualityAccepted 1 _ _ _ _ _ (turn .loop-test .taken)
+    (ap qualityAccepted (byte-in-list _ _ _ ∙ sym (c .before .byte-at .ensures)) ∙ lt-leb _ _ (c .if1 .taken))
+    (turn .before .loop .inv .1)
     ∙ ap (allOf qualityAccepted) (sym (qualities-are (turn .before .before)))
 
 add-k : tie.Need-add-k Inv-loop μ-loop
@@ -59,8 +59,12 @@ loop-less c = search needs
 loop-again : tie.Need-loop-again Inv-loop μ-loop
 unfolding qualityAccepted
 loop-again c =
-    let turn = c .before .before in
-    (search needs, tested-step qualityAccepted 1 _ _ _ _ _ (turn .loop-test .taken) (ap qualityAccepted (byte-in-list _ _ _ ∙ sym (c .before .byte-at .ensures)) ∙ le-leb _ _ (c .if1 .left)) (turn .before .loop .inv .1))
+    let turn = c .before .before in (
+      search needs,
+      tested-step qualityAccepted 1 _ _ _ _ _ (turn .loop-test .taken)
+          (ap qualityAccepted (byte-in-list _ _ _ ∙ sym (c .before .byte-at .ensures)) ∙ le-leb _ _ (c .if1 .left))
+          (turn .before .loop .inv .1),
+    )
 
 returns-2 : tie.Need-returns-2 Inv-loop μ-loop
 returns-2 c =

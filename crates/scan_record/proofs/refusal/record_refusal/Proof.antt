@@ -1,7 +1,7 @@
 -- `scan_record::refusal::record_refusal` meets its contract. Assumes nothing.
 use mathlib.Core.Path.{sym, _∙_}
 use Rattle.scan_record.specs.RecordRefusal.{recordRefusal}
-use Rattle.scan_record.proofs.LayoutSteps.{then-kept, then-next}
+use Rattle.scan_record.proofs.Then.{then-kept, then-next}
 use borrow.Author.Needs.{needs}
 use Rattle.scan_record.proofs.refusal.record_refusal.Statement.{statement}
 use Rattle.scan_record.proofs.refusal.record_refusal.Tie as tie

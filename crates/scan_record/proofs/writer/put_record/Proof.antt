@@ -4,7 +4,8 @@ use Prim.Native.Nat.{ℕ, _+_}
 use native.Mathlib.Omega.{arith}
 use borrow.Author.Needs.{needs}
 use Rattle.scan_record.specs.RecordRoom.{recordLength}
-use Rattle.scan_record.proofs.WrittenBytes.{grid-length-most, record-stored}
+use Rattle.scan_record.proofs.ContentLengths.{grid-length-most}
+use Rattle.scan_record.proofs.WrittenBytes.{record-stored}
 use Rattle.scan_record.proofs.writer.put_record.Statement.{statement}
 use Rattle.scan_record.proofs.writer.put_record.Tie as tie
 
@@ -56,16 +57,18 @@ put-values-requires c κs = omega arith
 
 add-qualities-start : tie.Need-add-qualities-start
 add-qualities-start c =
-    let start = c .before .before .before .before .before .before .before .before .before .before .before .before .before .before .before .before .before .before .before .before .before .before .before .before .before .before .before .before .before .before in
-    omega (arith, start .pre, c .before .before .before .before .before .before .before .before .before .before .before .before .grid-bytes .ensures, grid-length-most (start .args .head .grid))
+    let counted = c .before .before .before .before .before .before .before .before .before .before .before .before in
+    let start = counted .before .before .before .before .before .before .before .before .before .before .before .before .before .before .before .before .before .before in
+    omega (arith, start .pre, counted .grid-bytes .ensures, grid-length-most (start .args .head .grid))
 
 mul-qualities-start : tie.Need-mul-qualities-start
 mul-qualities-start c = search needs
 
 add-qualities-start-2 : tie.Need-add-qualities-start-2
 add-qualities-start-2 c =
-    let start = c .before .before .before .before .before .before .before .before .before .before .before .before .before .before .before .before .before .before .before .before .before .before .before .before .before .before .before .before .before .before in
-    omega (arith, start .pre, c .before .before .before .before .before .before .before .before .before .before .before .before .grid-bytes .ensures, grid-length-most (start .args .head .grid))
+    let counted = c .before .before .before .before .before .before .before .before .before .before .before .before in
+    let start = counted .before .before .before .before .before .before .before .before .before .before .before .before .before .before .before .before .before .before in
+    omega (arith, start .pre, counted .grid-bytes .ensures, grid-length-most (start .args .head .grid))
 
 put-qualities-requires : tie.Need-put-qualities-requires
 unfolding recordLength

@@ -2,7 +2,7 @@
 use native.Mathlib.Omega.{arith}
 use borrow.Author.Needs.{needs}
 use Rattle.scan_record.specs.RecordRoom.{recordLength}
-use Rattle.scan_record.proofs.WrittenBytes.{grid-length-most}
+use Rattle.scan_record.proofs.ContentLengths.{grid-length-most}
 use Rattle.scan_record.proofs.writer.record_length.Statement.{statement}
 use Rattle.scan_record.proofs.writer.record_length.Tie as tie
 
