@@ -1,4 +1,4 @@
--- A field's part: empty, or what stands between the field's header and its end. Assumes nothing.
+-- A field's part: empty, or what stands between the field's header and its end; and where it starts. Assumes nothing.
 use mathlib.Core.Bool.{true, false, _&&_}
 use mathlib.Core.List.{List, []}
 use mathlib.Core.Path.{_≡_, ap₂}
@@ -10,7 +10,7 @@ use lib.ListN.{length, take, drop}
 use Rattle.placement.specs.Refusal.{inRange}
 use Rattle.scan_record.specs.RecordPlaces.{contentLength, contentStart}
 use Rattle.scan_record.specs.RecordRefusal.{headRefusal}
-use Rattle.scan_record.specs.RecordAnswer.{part, fieldPart}
+use Rattle.scan_record.specs.RecordAnswer.{part, fieldPart, fieldPlace}
 use Rattle.scan_record.proofs.AcceptedRecord.{accepted-record}
 
 no-part : (bytes : List ℕ) (number : ℕ) → (inRange 1 7 number && eqb (headRefusal bytes) 0) ≡ false → [] ≡ fieldPart bytes number
@@ -44,3 +44,17 @@ unfolding part
 part-between bytes {start} {count} start′ count′ e f =
     let size : start + count - start ≡ count′ = omega (arith, f) in
     ap₂ (λ (n m : ℕ). take n (drop m bytes)) size e
+
+-- ---- where it starts
+
+pub place-below : (bytes : List ℕ) (number : ℕ) → number < 1 → 0 ≡ fieldPlace bytes number
+unfolding fieldPlace inRange
+place-below bytes number h = simp (lt-leb 1 number h)
+
+pub place-beyond : (bytes : List ℕ) (number : ℕ) → 1 ≤ number → 7 < number → 0 ≡ fieldPlace bytes number
+unfolding fieldPlace inRange
+place-beyond bytes number h i = simp (le-leb 1 number h, lt-leb number 7 i)
+
+pub place-given : (bytes : List ℕ) (number : ℕ) → 1 ≤ number → number ≤ 7 → contentStart bytes (number - 1) ≡ fieldPlace bytes number
+unfolding fieldPlace inRange
+place-given bytes number h i = simp (le-leb 1 number h, le-leb number 7 i)

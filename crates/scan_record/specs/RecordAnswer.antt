@@ -40,6 +40,10 @@ fieldPart bytes number =
     (part (contentStart bytes (number - 1)) (contentLength bytes (number - 1)) bytes)
     []
 
+-- where a field's content starts, 0 for a field number other than 1 to 7
+unfoldable pub fieldPlace : List ℕ → ℕ → ℕ
+fieldPlace bytes number = cond (inRange 1 7 number) (contentStart bytes (number - 1)) 0
+
 -- ---- the writer: it answers the record's length and touches nothing past its end
 
 unfoldable pub writtenAnswer : ℕ → ℕ → WrittenScan

@@ -1,9 +1,9 @@
-// The content of a field, as a part of the caller's own record.
+// The content of a field, as a part of the caller's own record, and its place there.
 use crate::layout::content_length;
 use crate::layout::content_start;
 use crate::refusal::record_refusal;
 ghost use mathlib.Core.Path.{_≡_};
-ghost use Rattle.scan_record.specs.RecordAnswer.{fieldPart};
+ghost use Rattle.scan_record.specs.RecordAnswer.{fieldPlace, fieldPart};
 
 // Any bytes and any number: a refused record or a number other than 1 to 7 gives an empty part.
 pub fn field(bytes: &[u8], number: usize) -> &[u8]
@@ -21,4 +21,17 @@ pub fn field(bytes: &[u8], number: usize) -> &[u8]
     let start = content_start(bytes, number - 1);
     let end = start + content_length(bytes, number - 1);
     &bytes[start..end]
+}
+
+// Where that part starts in a record that is not refused; 0 for a number other than 1 to 7.
+pub fn field_place(bytes: &[u8], number: usize) -> usize
+    ensures { λ r. ⌜ r ≡ fieldPlace (now (bytes .entry)) number ⌝ }
+{
+    if number < 1 {
+        return 0;
+    }
+    if 7 < number {
+        return 0;
+    }
+    content_start(bytes, number - 1)
 }

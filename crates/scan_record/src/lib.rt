@@ -9,6 +9,7 @@ mod refusal;
 mod writer;
 
 pub use field_part::field;
+pub use field_part::field_place;
 pub use reader::ReadScan;
 pub use reader::read_head;
 pub use reader::read_scan;

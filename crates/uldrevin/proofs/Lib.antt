@@ -1,1 +1,2 @@
 pub mod ScanNumber
+pub mod RecordAnswers

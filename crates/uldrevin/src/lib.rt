@@ -1,5 +1,7 @@
 // What C, Rust and Python link: the proved functions under C names.
 pub mod gate;
+mod head;
+pub mod record;
 pub mod scan;
 
 ghost use mathlib.Core.Path.{_≡_};

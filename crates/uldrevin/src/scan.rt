@@ -1,15 +1,11 @@
 // The whole scan. The answer is 0, with the six lent lists written, or the refusal number, with the six as they came in. By quality is any
 // number but 0.
-use placement::Grid;
-use placement::HrapGrid;
-use placement::RadolanGrid;
-use placement::Site;
+use crate::head::hrap_head;
+use crate::head::radolan_head;
 use remap::Remapped;
-use remap::ScanHead;
-use remap::Weighting;
 ghost use mathlib.Core.Path.{_≡_};
 ghost use Rattle.remap.specs.Remap.{refusalFor, Filled};
-ghost use Rattle.uldrevin.specs.ScanNumbers.{weightingOf, numberOf, radolanHead, hrapHead};
+ghost use Rattle.uldrevin.specs.ScanNumbers.{numberOf, radolanHead, hrapHead};
 
 #[no_mangle]
 pub extern "C" fn uldrevin_remap_radolan(
@@ -38,25 +34,20 @@ pub extern "C" fn uldrevin_remap_radolan(
     ensures { λ r. ⌜ r ≡ refusalFor (radolanHead rays gates first spacing latitude longitude «corner_x» «corner_y» side columns rows «by_quality») (now (azimuths .entry)) (now (values .entry)) (now (qualities .entry)) (now (ledger .entry)) (now (counts .entry)) (now («quality_sums» .entry)) (now («value_sums» .entry)) (now (means .entry)) (now («cell_qualities» .entry)) ⌝ }
     ensures { λ r. ⌜ Filled (radolanHead rays gates first spacing latitude longitude «corner_x» «corner_y» side columns rows «by_quality») (now (azimuths .entry)) (now (values .entry)) (now (qualities .entry)) (now (ledger .entry)) (now (counts .entry)) (now («quality_sums» .entry)) (now («value_sums» .entry)) (now (means .entry)) (now («cell_qualities» .entry)) (now (ledger .exit)) (now (counts .exit)) (now («quality_sums» .exit)) (now («value_sums» .exit)) (now (means .exit)) (now («cell_qualities» .exit)) ⌝ }
 {
-    let grid = Grid::Radolan(RadolanGrid {
-        x: corner_x,
-        y: corner_y,
-        side,
-        columns,
-        rows,
-    });
-    let head = ScanHead {
-        site: Site {
-            latitude,
-            longitude,
-        },
+    let head = radolan_head(
         rays,
         gates,
         first,
         spacing,
-        grid,
-        weighting: weighting_of(by_quality),
-    };
+        latitude,
+        longitude,
+        corner_x,
+        corner_y,
+        side,
+        columns,
+        rows,
+        by_quality,
+    );
     number_of(remap::remap(
         head,
         azimuths,
@@ -97,24 +88,19 @@ pub extern "C" fn uldrevin_remap_hrap(
     ensures { λ r. ⌜ r ≡ refusalFor (hrapHead rays gates first spacing latitude longitude i j columns rows «by_quality») (now (azimuths .entry)) (now (values .entry)) (now (qualities .entry)) (now (ledger .entry)) (now (counts .entry)) (now («quality_sums» .entry)) (now («value_sums» .entry)) (now (means .entry)) (now («cell_qualities» .entry)) ⌝ }
     ensures { λ r. ⌜ Filled (hrapHead rays gates first spacing latitude longitude i j columns rows «by_quality») (now (azimuths .entry)) (now (values .entry)) (now (qualities .entry)) (now (ledger .entry)) (now (counts .entry)) (now («quality_sums» .entry)) (now («value_sums» .entry)) (now (means .entry)) (now («cell_qualities» .entry)) (now (ledger .exit)) (now (counts .exit)) (now («quality_sums» .exit)) (now («value_sums» .exit)) (now (means .exit)) (now («cell_qualities» .exit)) ⌝ }
 {
-    let grid = Grid::Hrap(HrapGrid {
-        i,
-        j,
-        columns,
-        rows,
-    });
-    let head = ScanHead {
-        site: Site {
-            latitude,
-            longitude,
-        },
+    let head = hrap_head(
         rays,
         gates,
         first,
         spacing,
-        grid,
-        weighting: weighting_of(by_quality),
-    };
+        latitude,
+        longitude,
+        i,
+        j,
+        columns,
+        rows,
+        by_quality,
+    );
     number_of(remap::remap(
         head,
         azimuths,
@@ -127,15 +113,6 @@ pub extern "C" fn uldrevin_remap_hrap(
         means,
         cell_qualities,
     ))
-}
-
-fn weighting_of(by_quality: u32) -> Weighting
-    ensures { λ r. ⌜ r ≡ weightingOf «by_quality» ⌝ }
-{
-    if by_quality == 0 {
-        return Weighting::Plain;
-    }
-    Weighting::ByQuality
 }
 
 fn number_of(answer: Remapped) -> u32

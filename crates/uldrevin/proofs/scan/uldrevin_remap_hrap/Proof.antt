@@ -1,5 +1,5 @@
 -- `uldrevin::scan::uldrevin_remap_hrap` meets its contract, which is that of `remap::remap`. Assumes nothing.
-use mathlib.Core.Path.{ap, _∙_}
+use mathlib.Core.Path.{_≡_, ap, _∙_}
 use mir.Facts.{toZ-ofZ}
 use Rattle.uldrevin.specs.ScanNumbers.{numberOf, hrapHead}
 use Rattle.uldrevin.proofs.ScanNumber.{number-of-answer}
@@ -7,8 +7,11 @@ use borrow.Author.Needs.{needs}
 use Rattle.uldrevin.proofs.scan.uldrevin_remap_hrap.Statement.{statement}
 use Rattle.uldrevin.proofs.scan.uldrevin_remap_hrap.Tie as tie
 
-weighting-of-requires : tie.Need-weighting-of-requires
-weighting-of-requires c κs = search needs
+head-is : (c : tie.After-hrap-head) → let given = c .before .before .before .before .before .before .before .before .before .before .args in c .hrap-head .result ≡ hrapHead (given .rays) (given .gates) (given .first) (given .spacing) (given .latitude) (given .longitude) (given .i) (given .j) (given .columns) (given .rows) (given .by-quality)
+head-is c = let f = c .before .before .before .before .before .before .before .before .before .before .fits in simp (toZ-ofZ, f .latitude, f .longitude, f .i, f .j) at (c .hrap-head .ensures)
+
+hrap-head-requires : tie.Need-hrap-head-requires
+hrap-head-requires c κs = search needs
 
 remap-requires : tie.Need-remap-requires
 remap-requires c κs = search needs
@@ -35,16 +38,15 @@ same-length-6 : tie.Need-same-length-6
 same-length-6 c = search needs
 
 returns : tie.Need-returns
-unfolding hrapHead
-returns c = let f = c .before .before .before .before .before .before .before .before .before .before .before .before .before .before .before .before .before .before .before .before .before .before .before .before .before .before .before .before .before .before .fits in
-    let told = simp (toZ-ofZ, f .latitude, f .longitude, f .i, f .j, c .before .before .before .before .before .before .before .before .before .before .before .before .before .before .before .before .before .before .before .before .weighting-of .ensures) at (c .before .before .before .before .before .before .before .before .before .before .before .before .before .remap .ensures) in
+returns c =
+    let told = rw (head-is (c .before .before .before .before .before .before .before .before .before .before .before .before .before .before .before .before .before .before .before .before)) at (c .before .before .before .before .before .before .before .before .before .before .before .before .before .remap .ensures) in
     (c .number-of .ensures ∙ ap numberOf (told .0) ∙ number-of-answer _, told .1)
 
 pub uldrevin-remap-hrap-spec : {M : Type 1} → statement M
 uldrevin-remap-hrap-spec =
     tie.close
     (tie.spec
-    weighting-of-requires
+    hrap-head-requires
     remap-requires
     number-of-requires
     same-length

@@ -1,5 +1,5 @@
 -- `uldrevin::scan::uldrevin_remap_radolan` meets its contract, which is that of `remap::remap`. Assumes nothing.
-use mathlib.Core.Path.{ap, _∙_}
+use mathlib.Core.Path.{_≡_, ap, _∙_}
 use mir.Facts.{toZ-ofZ}
 use Rattle.uldrevin.specs.ScanNumbers.{numberOf, radolanHead}
 use Rattle.uldrevin.proofs.ScanNumber.{number-of-answer}
@@ -7,8 +7,11 @@ use borrow.Author.Needs.{needs}
 use Rattle.uldrevin.proofs.scan.uldrevin_remap_radolan.Statement.{statement}
 use Rattle.uldrevin.proofs.scan.uldrevin_remap_radolan.Tie as tie
 
-weighting-of-requires : tie.Need-weighting-of-requires
-weighting-of-requires c κs = search needs
+head-is : (c : tie.After-radolan-head) → let given = c .before .before .before .before .before .before .before .before .before .before .args in c .radolan-head .result ≡ radolanHead (given .rays) (given .gates) (given .first) (given .spacing) (given .latitude) (given .longitude) (given .corner-x) (given .corner-y) (given .side) (given .columns) (given .rows) (given .by-quality)
+head-is c = let f = c .before .before .before .before .before .before .before .before .before .before .fits in simp (toZ-ofZ, f .latitude, f .longitude, f .corner-x, f .corner-y) at (c .radolan-head .ensures)
+
+radolan-head-requires : tie.Need-radolan-head-requires
+radolan-head-requires c κs = search needs
 
 remap-requires : tie.Need-remap-requires
 remap-requires c κs = search needs
@@ -35,16 +38,15 @@ same-length-6 : tie.Need-same-length-6
 same-length-6 c = search needs
 
 returns : tie.Need-returns
-unfolding radolanHead
-returns c = let f = c .before .before .before .before .before .before .before .before .before .before .before .before .before .before .before .before .before .before .before .before .before .before .before .before .before .before .before .before .before .before .fits in
-    let told = simp (toZ-ofZ, f .latitude, f .longitude, f .corner-x, f .corner-y, c .before .before .before .before .before .before .before .before .before .before .before .before .before .before .before .before .before .before .before .before .weighting-of .ensures) at (c .before .before .before .before .before .before .before .before .before .before .before .before .before .remap .ensures) in
+returns c =
+    let told = rw (head-is (c .before .before .before .before .before .before .before .before .before .before .before .before .before .before .before .before .before .before .before .before)) at (c .before .before .before .before .before .before .before .before .before .before .before .before .before .remap .ensures) in
     (c .number-of .ensures ∙ ap numberOf (told .0) ∙ number-of-answer _, told .1)
 
 pub uldrevin-remap-radolan-spec : {M : Type 1} → statement M
 uldrevin-remap-radolan-spec =
     tie.close
     (tie.spec
-    weighting-of-requires
+    radolan-head-requires
     remap-requires
     number-of-requires
     same-length

@@ -1,8 +1,8 @@
--- `uldrevin::scan::weighting_of` meets its contract. Assumes nothing.
+-- `uldrevin::head::weighting_of` meets its contract. Assumes nothing.
 use Rattle.uldrevin.specs.ScanNumbers.{weightingOf}
 use Rattle.uldrevin.proofs.ScanNumber.{by-quality}
-use Rattle.uldrevin.proofs.scan.weighting_of.Statement.{statement}
-use Rattle.uldrevin.proofs.scan.weighting_of.Tie as tie
+use Rattle.uldrevin.proofs.head.weighting_of.Statement.{statement}
+use Rattle.uldrevin.proofs.head.weighting_of.Tie as tie
 
 returns : tie.Need-returns
 unfolding weightingOf

@@ -1,0 +1,23 @@
+-- `uldrevin::record::read_number` meets its contract. Assumes nothing.
+use mathlib.Core.Path.{sym, ap}
+use Rattle.uldrevin.specs.RecordNumbers.{readNumber}
+use borrow.Author.Needs.{needs}
+use Rattle.uldrevin.proofs.record.read_number.Statement.{statement}
+use Rattle.uldrevin.proofs.record.read_number.Tie as tie
+
+enum-told : tie.Need-enum-told
+enum-told c = search needs
+
+enum-known-answer : tie.Need-enum-known-answer
+enum-known-answer c = search needs
+
+returns : tie.Need-returns
+unfolding readNumber
+returns c = sym (ap readNumber (c .enum-told .given .1))
+
+returns-2 : tie.Need-returns-2
+unfolding readNumber
+returns-2 c = sym (ap readNumber (c .before .answer .given .1))
+
+pub read-number-spec : {M : Type 1} → statement M
+read-number-spec = tie.close (tie.spec enum-told enum-known-answer returns returns-2)
