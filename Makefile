@@ -1,9 +1,10 @@
-# make run: prove and run the program. make test: everything that is proved or compared. make bench: times, as ratios.
+# make run: prove the programs and show how one number came about. make test: everything that is proved or compared.
+# make bench: times, as ratios.
 .PHONY: run test library bench
 
 run:
-	rt check sines
-	target/bin/sines
+	rt check sheet ledger gate
+	@sh examples/story.sh
 
 test:
 	python3 tests/run.py

@@ -88,6 +88,9 @@ def main():
 
         for module in (compare_tables, compare_sine, compare_placement, compare_scan, compare_record):
             compared(count, module)
+    import compare_programs
+
+    compared(count, compare_programs)
     print(f"{count.passed} passed, {count.failed} failed")
     return 0 if count.failed == 0 and count.passed > 0 else 1
 

@@ -26,7 +26,7 @@ use Rattle.remap.specs.TallyRoom.{Tallied}
 use Rattle.remap.proofs.PublishedRange.{mean-published, quality-published}
 
 -- the last centre is the farthest
-centres-most : (gates first spacing g : ℕ) → centresAccepted gates first spacing ≡ true → g < gates → first + g * spacing ≤ 46000000
+pub centres-most : (gates first spacing g : ℕ) → centresAccepted gates first spacing ≡ true → g < gates → first + g * spacing ≤ 46000000
 unfolding centresAccepted
 centres-most gates first spacing g e h =
     let last = leb-true (first + (gates - 1) * spacing) 46000000 (and-true (leb first 46000000 && inRange 1 1000000 spacing) _ e .1) in

@@ -12,6 +12,7 @@ pub use scan::Lengths;
 pub use scan::Remapped;
 pub use scan::ScanHead;
 pub use scan::azimuths_accepted;
+pub use scan::cells_of;
 pub use scan::gates_of;
 pub use scan::lists_accepted;
 pub use scan::qualities_accepted;

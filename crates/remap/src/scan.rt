@@ -97,7 +97,7 @@ pub fn gates_of(head: ScanHead) -> usize
 }
 
 // Columns x rows.
-fn cells_of(head: ScanHead) -> usize
+pub fn cells_of(head: ScanHead) -> usize
     ensures { λ r. ⌜ r ≡ cellsOf head ⌝ }
 {
     let grid = head.grid;

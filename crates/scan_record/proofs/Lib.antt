@@ -16,3 +16,4 @@ pub mod FieldContents
 pub mod ContentsRead
 pub mod WriteThenRead
 pub mod RoundTrips
+pub mod GateNumbers

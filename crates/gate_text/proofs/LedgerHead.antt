@@ -1,0 +1,43 @@
+-- What a good record's head has, and the line of one of its gates from what the code reads. Assumes nothing.
+use mathlib.Core.Bool.{true}
+use mathlib.Core.List.{List, [], _∷_, _++_}
+use mathlib.Core.Path.{_≡_, sym, subst}
+use Prim.Native.Nat.{ℕ, _+_, _*_, _/_, _%_, _≤_}
+use native.Mathlib.Nat.{mod-lt}
+use lib.ListN.{getD}
+use Rattle.placement.specs.declared.gate.Placement.{Placement}
+use Rattle.placement.specs.Gate.{placementOf}
+use Rattle.placement.specs.Window.{windowOf}
+use Rattle.placement.proofs.Accepted.{range-bounds}
+use Rattle.remap.specs.declared.scan.ScanHead.{ScanHead}
+use Rattle.remap.proofs.AcceptedRemap.{centres-most}
+use Rattle.remap.proofs.AcceptedScan.{accepted-numbers}
+use Rattle.scan_record.specs.RecordPlaces.{headIn, azimuthsIn, valuesIn, qualitiesIn}
+use Rattle.scan_record.specs.RecordRefusal.{headRefusal}
+use Rattle.scan_record.proofs.AcceptedRecord.{accepted-record}
+use Rattle.text.specs.DecimalText.{decimalOf, lineOf}
+use Rattle.gate_text.specs.LedgerLine.{placementWords, rayOf, gateOf, azimuthOf, rangeOf, gateWords, ledgerLine}
+
+pub record GoodHead (head : ScanHead) : Type 0 where
+  pub gates-least : 1 ≤ head .gates
+  pub gates-most : head .gates ≤ 1000
+  pub range-most : (k : ℕ) → head .first + k % head .gates * head .spacing ≤ 46000000
+
+head-good : (bytes : List ℕ) → headRefusal bytes ≡ 0 → GoodHead (headIn bytes)
+unfolding headRefusal
+head-good bytes e =
+    let numbers = accepted-numbers (headIn bytes) true _ _ (accepted-record bytes true e .number) in
+    let gates = range-bounds 1 1000 (headIn bytes .gates) (numbers .gates-accepted) in
+    record {
+      gates-least = gates .0;
+      gates-most = gates .1;
+      range-most = λ k. centres-most (headIn bytes .gates) (headIn bytes .first) (headIn bytes .spacing) (k % headIn bytes .gates) (numbers .centres-accepted) (mod-lt k (gates .0));
+    }
+
+pub good-head : {head : ScanHead} (bytes : List ℕ) → head ≡ headIn bytes → headRefusal bytes ≡ 0 → GoodHead head
+good-head bytes e none = subst (λ (h : ScanHead). GoodHead h) (sym e) (head-good bytes none)
+
+module _ (bytes : List ℕ) (k : ℕ) {head : ScanHead} {azimuth value quality columns : ℕ} {placement : Placement} where
+  pub ledger-line-is : head ≡ headIn bytes → azimuth ≡ getD (azimuthsIn bytes) (k / head .gates) 0 → value ≡ getD (valuesIn bytes) k 0 → quality ≡ getD (qualitiesIn bytes) k 0 → columns ≡ windowOf (head .grid) .columns → placement ≡ placementOf (head .site) (head .grid) azimuth (head .first + k % head .gates * head .spacing) → lineOf ((decimalOf (k / head .gates) ∷ decimalOf (k % head .gates) ∷ decimalOf azimuth ∷ decimalOf (head .first + k % head .gates * head .spacing) ∷ decimalOf value ∷ decimalOf quality ∷ []) ++ placementWords columns placement) ≡ ledgerLine bytes k
+  unfolding rayOf gateOf azimuthOf rangeOf gateWords ledgerLine
+  ledger-line-is h a v q c p = rw (p, c, v, q, a, h)

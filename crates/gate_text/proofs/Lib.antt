@@ -1,0 +1,5 @@
+pub mod StoredLaws
+pub mod PlacedColumns
+pub mod LedgerHead
+pub mod GivenLaws
+pub mod GateAnswer

@@ -1,0 +1,39 @@
+-- `gate_text::gate::answer_outside` meets its contract. Assumes nothing.
+use native.Mathlib.Omega.{arith}
+use mir.Facts.{toZ-ofZ}
+use Rattle.gate_text.specs.GateText.{answerWords}
+use Rattle.gate_text.specs.LedgerLine.{outsideWord}
+use Rattle.gate_text.proofs.StoredLaws.{line-last, line-before}
+use borrow.Author.Needs.{needs}
+use Rattle.gate_text.proofs.gate.answer_outside.Statement.{statement}
+use Rattle.gate_text.proofs.gate.answer_outside.Tie as tie
+
+slice-aggregate-put-text : tie.Need-slice-aggregate-put-text
+slice-aggregate-put-text c = search needs
+
+put-text-requires : tie.Need-put-text-requires
+put-text-requires c κs = search needs
+
+put-integer-requires : tie.Need-put-integer-requires
+put-integer-requires c κs = search needs
+
+put-integer-requires-2 : tie.Need-put-integer-requires-2
+put-integer-requires-2 c κs = search needs
+
+same-length : tie.Need-same-length
+same-length c = search needs
+
+returns : tie.Need-returns
+unfolding answerWords outsideWord
+returns c = (line-before _ _ _ (c .before .before .before .before .before .before .before .before .before .before .put-text .ensures) (line-before _ _ _ (rw (toZ-ofZ (c .before .before .before .before .before .before .before .before .before .before .before .before .before .before .fits .x)) at (c .before .before .before .before .before .before .put-integer .ensures .0)) (line-last _ (rw (toZ-ofZ (c .before .before .before .before .before .before .before .before .before .before .before .before .before .before .fits .y)) at (c .before .before .put-integer2 .ensures .0)))), omega (arith, c .before .before .before .before .before .before .before .before .before .before .put-text .ensures .the-end, c .before .before .before .before .before .before .put-integer .ensures .1, c .before .before .put-integer2 .ensures .1))
+
+pub answer-outside-spec : {M : Type 1} → statement M
+answer-outside-spec =
+    tie.close
+    (tie.spec
+    slice-aggregate-put-text
+    put-text-requires
+    put-integer-requires
+    put-integer-requires-2
+    same-length
+    returns)

@@ -1,0 +1,44 @@
+-- `gate_text::gate::put_given` meets its contract. Assumes nothing.
+use Rattle.gate_text.proofs.GateAnswer.{answer-text-is}
+use Rattle.gate_text.proofs.PlacedColumns.{placed-columns}
+use Rattle.gate_text.proofs.StoredLaws.{stored-same}
+use borrow.Author.Needs.{needs}
+use Rattle.gate_text.proofs.gate.put_given.Statement.{statement}
+use Rattle.gate_text.proofs.gate.put_given.Tie as tie
+
+site-given-requires : tie.Need-site-given-requires
+site-given-requires c κs = search needs
+
+unsigned-at-requires : tie.Need-unsigned-at-requires
+unsigned-at-requires c κs = search needs
+
+unsigned-at-requires-2 : tie.Need-unsigned-at-requires-2
+unsigned-at-requires-2 c κs = search needs
+
+columns-of-requires : tie.Need-columns-of-requires
+columns-of-requires c κs = search needs
+
+place-requires : tie.Need-place-requires
+place-requires c κs = search needs
+
+put-answer-requires : tie.Need-put-answer-requires
+put-answer-requires c κs = (search needs, rw (c .before .columns-of .ensures, c .place .ensures .0) (placed-columns _ _ _ _))
+
+same-length : tie.Need-same-length
+same-length c = search needs
+
+returns : tie.Need-returns
+returns c = (stored-same (answer-text-is _ _ (c .before .before .before .before .before .before .before .before .site-given .ensures) (c .before .before .before .before .before .before .before .unsigned-at .ensures) (c .before .before .before .before .before .before .unsigned-at2 .ensures) (c .before .before .before .before .columns-of .ensures) (c .before .before .before .place .ensures .0)) (c .before .before .put-answer .ensures .0), c .before .before .put-answer .ensures .1)
+
+pub put-given-spec : {M : Type 1} → statement M
+put-given-spec =
+    tie.close
+    (tie.spec
+    site-given-requires
+    unsigned-at-requires
+    unsigned-at-requires-2
+    columns-of-requires
+    place-requires
+    put-answer-requires
+    same-length
+    returns)

@@ -1,0 +1,23 @@
+-- `gate_text::gate::put_usage` meets its contract. Assumes nothing.
+use native.Mathlib.Omega.{arith}
+use Rattle.gate_text.specs.GateText.{usageLine}
+use borrow.Author.Needs.{needs}
+use Rattle.gate_text.proofs.gate.put_usage.Statement.{statement}
+use Rattle.gate_text.proofs.gate.put_usage.Tie as tie
+
+slice-aggregate-put-word : tie.Need-slice-aggregate-put-word
+slice-aggregate-put-word c = search needs
+
+put-word-requires : tie.Need-put-word-requires
+put-word-requires c κs = search needs
+
+same-length : tie.Need-same-length
+same-length c = search needs
+
+returns : tie.Need-returns
+unfolding usageLine
+returns c = (record { the-end = c .before .before .put-word .ensures .0; the-bytes = c .before .before .put-word .ensures .1 }, omega (arith, c .before .before .put-word .ensures .0))
+
+pub put-usage-spec : {M : Type 1} → statement M
+put-usage-spec =
+    tie.close (tie.spec slice-aggregate-put-word put-word-requires same-length returns)

@@ -1,0 +1,38 @@
+-- `gate_text::ledger::put_outside` meets its contract. Assumes nothing.
+use native.Mathlib.Omega.{arith}
+use mir.Facts.{toZ-ofZ}
+use Rattle.gate_text.specs.LedgerLine.{placementWords, outsideWord}
+use Rattle.gate_text.proofs.StoredLaws.{line-last, line-before}
+use borrow.Author.Needs.{needs}
+use Rattle.gate_text.proofs.ledger.put_outside.Statement.{statement}
+use Rattle.gate_text.proofs.ledger.put_outside.Tie as tie
+
+put-integer-requires : tie.Need-put-integer-requires
+put-integer-requires c κs = search needs
+
+put-integer-requires-2 : tie.Need-put-integer-requires-2
+put-integer-requires-2 c κs = search needs
+
+slice-aggregate-put-text : tie.Need-slice-aggregate-put-text
+slice-aggregate-put-text c = search needs
+
+put-text-requires : tie.Need-put-text-requires
+put-text-requires c κs = search needs
+
+same-length : tie.Need-same-length
+same-length c = search needs
+
+returns : tie.Need-returns
+unfolding placementWords outsideWord
+returns c = (line-before _ _ _ (rw (toZ-ofZ (c .before .before .before .before .before .before .before .before .before .before .before .before .before .before .fits .x)) at (c .before .before .before .before .before .before .before .before .before .before .before .put-integer .ensures .0)) (line-before _ _ _ (rw (toZ-ofZ (c .before .before .before .before .before .before .before .before .before .before .before .before .before .before .fits .y)) at (c .before .before .before .before .before .before .before .put-integer2 .ensures .0)) (line-last _ (c .before .before .put-text .ensures))), omega (arith, c .before .before .before .before .before .before .before .before .before .before .before .put-integer .ensures .1, c .before .before .before .before .before .before .before .put-integer2 .ensures .1, c .before .before .put-text .ensures .the-end))
+
+pub put-outside-spec : {M : Type 1} → statement M
+put-outside-spec =
+    tie.close
+    (tie.spec
+    put-integer-requires
+    put-integer-requires-2
+    slice-aggregate-put-text
+    put-text-requires
+    same-length
+    returns)

@@ -1,0 +1,78 @@
+-- One gate given in words: LATITUDE LONGITUDE AZIMUTH RANGE hrap I J COLUMNS ROWS, or LATITUDE LONGITUDE AZIMUTH RANGE radolan X Y SIDE
+-- COLUMNS ROWS, and the line that answers it. Assumes nothing.
+use mathlib.Core.Bool.{Bool, _&&_, cond}
+use mathlib.Core.List.{List, [], _∷_}
+use Prim.Native.Nat.{ℕ, _-_, _/_, _%_}
+use Rattle.placement.specs.declared.gate.Placement.{Placement}
+use Rattle.placement.specs.declared.gate.Placement.the-variants.{Inside, Outside, Refused}
+use Rattle.placement.specs.declared.grid.Grid.{Grid}
+use Rattle.placement.specs.declared.grid.Grid.the-variants.{Radolan, Hrap}
+use Rattle.placement.specs.declared.position.Site.{Site}
+use Rattle.placement.specs.Gate.{placementOf}
+use Rattle.placement.specs.Window.{windowOf}
+use Rattle.text.specs.DecimalText.{decimalOf, signedDecimalOf, lineOf}
+use Rattle.gate_text.specs.GivenWords.{sameWord, unsigned32, word, areWords, numberAt, areNumbers}
+use Rattle.gate_text.specs.LedgerLine.{outsideWord, refusedWord}
+
+-- the words `inside`, `hrap` and `radolan`
+unfoldable pub insideWord : List ℕ
+insideWord = 105 ∷ 110 ∷ 115 ∷ 105 ∷ 100 ∷ 101 ∷ []
+
+unfoldable pub hrapWord : List ℕ
+hrapWord = 104 ∷ 114 ∷ 97 ∷ 112 ∷ []
+
+unfoldable pub radolanWord : List ℕ
+radolanWord = 114 ∷ 97 ∷ 100 ∷ 111 ∷ 108 ∷ 97 ∷ 110 ∷ []
+
+-- usage: gate latitude longitude azimuth range (hrap i j | radolan x y side) columns rows
+unfoldable pub usageLine : List ℕ
+usageLine =
+    117 ∷ 115 ∷ 97 ∷ 103 ∷ 101 ∷ 58 ∷ 32 ∷ 103 ∷ 97 ∷ 116 ∷ 101 ∷ 32 ∷ 108 ∷ 97 ∷ 116 ∷ 105 ∷ 116 ∷ 117 ∷ 100 ∷ 101 ∷ 32 ∷ 108 ∷ 111 ∷ 110 ∷ 103 ∷ 105 ∷ 116 ∷ 117 ∷ 100 ∷ 101 ∷ 32 ∷ 97 ∷ 122 ∷ 105 ∷ 109 ∷ 117 ∷ 116 ∷ 104 ∷ 32 ∷ 114 ∷ 97 ∷ 110 ∷ 103 ∷ 101 ∷ 32 ∷ 40 ∷ 104 ∷ 114 ∷ 97 ∷ 112 ∷ 32 ∷ 105 ∷ 32 ∷ 106 ∷ 32 ∷ 124 ∷ 32 ∷ 114 ∷ 97 ∷ 100 ∷ 111 ∷ 108 ∷ 97 ∷ 110 ∷ 32 ∷ 120 ∷ 32 ∷ 121 ∷ 32 ∷ 115 ∷ 105 ∷ 100 ∷ 101 ∷ 41 ∷ 32 ∷ 99 ∷ 111 ∷ 108 ∷ 117 ∷ 109 ∷ 110 ∷ 115 ∷ 32 ∷ 114 ∷ 111 ∷ 119 ∷ 115 ∷ 10 ∷ []
+
+-- inside X Y COLUMN ROW CELL, or outside X Y, or refused NUMBER
+unfoldable pub answerWords : ℕ → Placement → List (List ℕ)
+answerWords columns (Inside cell x y) =
+    insideWord
+    ∷ signedDecimalOf x
+    ∷ signedDecimalOf y
+    ∷ decimalOf (cell % columns)
+    ∷ decimalOf (cell / columns)
+    ∷ decimalOf cell
+    ∷ []
+answerWords columns (Outside x y) = outsideWord ∷ signedDecimalOf x ∷ signedDecimalOf y ∷ []
+answerWords columns (Refused number) = refusedWord ∷ decimalOf number ∷ []
+
+module _ (words : List ℕ) where
+  -- so many words, the fifth of them the kind, all others numbers
+  unfoldable pub given : ℕ → List ℕ → Bool
+  given count kind =
+      areWords words count && sameWord (word words 4) kind && areNumbers words 0 4 && areNumbers words 5 (count - 5)
+
+  unfoldable pub siteGiven : Site
+  siteGiven = record { latitude = numberAt words 0; longitude = numberAt words 1 }
+
+  unfoldable pub hrapGiven : Grid
+  hrapGiven = Hrap (record {
+    i = numberAt words 5;
+    j = numberAt words 6;
+    columns = unsigned32 (numberAt words 7);
+    rows = unsigned32 (numberAt words 8);
+  })
+
+  unfoldable pub radolanGiven : Grid
+  radolanGiven = Radolan (record {
+    x = numberAt words 5;
+    y = numberAt words 6;
+    side = unsigned32 (numberAt words 7);
+    columns = unsigned32 (numberAt words 8);
+    rows = unsigned32 (numberAt words 9);
+  })
+
+  unfoldable pub answerText : Grid → List ℕ
+  answerText grid =
+      lineOf (answerWords (windowOf grid .columns) (placementOf siteGiven grid (unsigned32 (numberAt words 2)) (unsigned32 (numberAt words 3))))
+
+  unfoldable pub gateText : List ℕ
+  gateText =
+      cond (given 9 hrapWord) (answerText hrapGiven)
+      (cond (given 10 radolanWord) (answerText radolanGiven) usageLine)

@@ -1,0 +1,4 @@
+pub mod StoredText
+pub mod LedgerLine
+pub mod GivenWords
+pub mod GateText

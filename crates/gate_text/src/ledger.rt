@@ -1,0 +1,109 @@
+// The line of one gate of a record: ray, gate, azimuth, range, value, quality, X, Y, then column and row or the word `outside`.
+use crate::columns::columns_of;
+use crate::fields::put_integer;
+use crate::fields::put_number;
+use crate::fields::put_text;
+use placement::Placement;
+ghost use mathlib.Core.Bool.{true};
+ghost use mathlib.Core.List.{[], _∷_};
+ghost use mathlib.Core.Path.{_≡_};
+ghost use Prim.Native.Nat.{_≤_, _<_, _+_};
+ghost use lib.ListN.{length};
+ghost use lib.Seq.{sets};
+ghost use Rattle.placement.specs.declared.gate.Placement.the-variants.{Inside, Outside, Refused};
+ghost use Rattle.remap.specs.Scan.{gatesOf};
+ghost use Rattle.scan_record.specs.RecordPlaces.{headIn};
+ghost use Rattle.scan_record.specs.RecordRefusal.{headRefusal};
+ghost use Rattle.text.specs.DecimalText.{decimalOf, lineOf};
+ghost use Rattle.gate_text.specs.LedgerLine.{placementWords, ledgerLine};
+ghost use Rattle.gate_text.specs.StoredText.{Stored, columnsThere, spaced};
+
+// Gate k of a good record, gates numbered ray by ray.
+pub fn ledger_line(bytes: &[u8], k: usize, line: &mut [u8]) -> usize
+    requires { ⌜ (headRefusal (now bytes) ≡ 0) × (k < gatesOf (headIn (now bytes))) × (256 ≤ length (now line)) ⌝ }
+    ensures { λ r. ⌜ r ≡ length (ledgerLine (now (bytes .entry)) k) ⌝ }
+    ensures bounded { λ r. ⌜ r ≤ 256 ⌝ }
+    ensures { λ _. ⌜ now (line .exit) ≡ sets (now (line .entry)) 0 (ledgerLine (now (bytes .entry)) k) ⌝ }
+{
+    let head = scan_record::head_in(bytes);
+    let site = head.site;
+    let grid = head.grid;
+    let ray = k / head.gates as usize;
+    let gate = k % head.gates as usize;
+    let azimuth = scan_record::azimuth_in(bytes, ray);
+    let range = head.first + gate as u32 * head.spacing;
+    let value = scan_record::value_in(bytes, k);
+    let quality = scan_record::quality_in(bytes, k);
+    let end = put_gate(line, ray, gate, azimuth, range, value, quality);
+    put_place(
+        line,
+        end,
+        columns_of(grid),
+        placement::place(site, grid, azimuth, range),
+    )
+}
+
+// What the record says of a gate; a space behind each.
+fn put_gate(
+    line: &mut [u8],
+    ray: usize,
+    gate: usize,
+    azimuth: u32,
+    range: u32,
+    value: u16,
+    quality: u8,
+) -> usize
+    requires { ⌜ 126 ≤ length (now line) ⌝ }
+    ensures { λ r. ⌜ Stored (now (line .entry)) 0 (spaced (decimalOf ray ∷ decimalOf gate ∷ decimalOf azimuth ∷ decimalOf range ∷ decimalOf value ∷ decimalOf quality ∷ [])) r (now (line .exit)) ⌝ }
+    ensures bounded { λ r. ⌜ r ≤ 126 ⌝ }
+{
+    let after_ray = put_number(line, 0, ray as u64, 32);
+    let after_gate = put_number(line, after_ray, gate as u64, 32);
+    let after_azimuth = put_number(line, after_gate, azimuth as u64, 32);
+    let after_range = put_number(line, after_azimuth, range as u64, 32);
+    let after_value = put_number(line, after_range, value as u64, 32);
+    put_number(line, after_value, quality as u64, 32)
+}
+
+// Where a gate lies. A gate of a good record is never refused.
+fn put_place(line: &mut [u8], at: usize, columns: u32, placement: Placement) -> usize
+    requires { ⌜ (at + 84 ≤ length (now line)) × (columnsThere columns placement ≡ true) ⌝ }
+    ensures { λ r. ⌜ Stored (now (line .entry)) at (lineOf (placementWords columns placement)) r (now (line .exit)) ⌝ }
+    ensures bounded { λ r. ⌜ r ≤ at + 84 ⌝ }
+{
+    match placement {
+        Placement::Inside { cell, x, y } => put_inside(line, at, columns, cell, x, y),
+        Placement::Outside { x, y } => put_outside(line, at, x, y),
+        Placement::Refused(number) => put_refused(line, at, number),
+    }
+}
+
+fn put_inside(line: &mut [u8], at: usize, columns: u32, cell: u32, x: i64, y: i64) -> usize
+    requires { ⌜ (at + 84 ≤ length (now line)) × (1 ≤ columns) ⌝ }
+    ensures { λ r. ⌜ Stored (now (line .entry)) at (lineOf (placementWords columns (Inside cell x y))) r (now (line .exit)) ⌝ }
+    ensures bounded { λ r. ⌜ r ≤ at + 84 ⌝ }
+{
+    let after_x = put_integer(line, at, x, 32);
+    let after_y = put_integer(line, after_x, y, 32);
+    let after_column = put_number(line, after_y, (cell % columns) as u64, 32);
+    put_number(line, after_column, (cell / columns) as u64, 10)
+}
+
+fn put_outside(line: &mut [u8], at: usize, x: i64, y: i64) -> usize
+    requires { ⌜ at + 84 ≤ length (now line) ⌝ }
+    ensures { λ r. ⌜ Stored (now (line .entry)) at (lineOf (placementWords 0 (Outside x y))) r (now (line .exit)) ⌝ }
+    ensures bounded { λ r. ⌜ r ≤ at + 84 ⌝ }
+{
+    let after_x = put_integer(line, at, x, 32);
+    let after_y = put_integer(line, after_x, y, 32);
+    put_text(line, after_y, b"outside", 10)
+}
+
+pub fn put_refused(line: &mut [u8], at: usize, number: u32) -> usize
+    requires { ⌜ at + 84 ≤ length (now line) ⌝ }
+    ensures { λ r. ⌜ Stored (now (line .entry)) at (lineOf (placementWords 0 (Refused number))) r (now (line .exit)) ⌝ }
+    ensures bounded { λ r. ⌜ r ≤ at + 84 ⌝ }
+{
+    let after_word = put_text(line, at, b"refused", 32);
+    put_number(line, after_word, number as u64, 10)
+}

@@ -1,0 +1,55 @@
+// Reads a scan record from standard input and prints its ledger: a heading, then a line for each gate of the record, ray by ray, with
+// one space between the fields. A record that is refused prints `refused` and its number.
+use libc::STDIN_FILENO;
+use libc::STDOUT_FILENO;
+use scan_record::ReadScan;
+ghost use mathlib.Core.Path.{_≡_};
+ghost use Prim.Native.Nat.{_≤_, _<_};
+ghost use Rattle.remap.specs.Scan.{gatesOf};
+ghost use Rattle.scan_record.specs.RecordPlaces.{headIn};
+ghost use Rattle.scan_record.specs.RecordRefusal.{headRefusal};
+
+// A field 5 whose length is right says at most 16,383 rays, a field 6 at most 32,767 gates, so that seven fields in order end within
+// 21 + 8 + 12 + 17 + 1 + 65,532 + 65,534 + 32,767 = 163,892 bytes. Of a longer input one byte more is read: each field's checks look at
+// bytes before that place only, and bytes after field 7 are bytes after field 7 on both. So the number is that of the whole input.
+fn main() {
+    let mut input = [0u8; 163893];
+    let n = io::read_full(STDIN_FILENO, &mut input);
+    print_ledger(&input[..n]);
+}
+
+fn print_ledger(bytes: &[u8]) {
+    let answer = scan_record::read_head(bytes);
+    match answer {
+        ReadScan::Refused(number) => print_refusal(number),
+        ReadScan::Head(head) => print_lines(bytes, remap::gates_of(head)),
+    }
+}
+
+fn print_refusal(number: u32) {
+    io::write_all(STDOUT_FILENO, b"refused ");
+    io::print_decimal(STDOUT_FILENO, number as u64);
+    io::write_all(STDOUT_FILENO, b"\n");
+}
+
+fn print_lines(bytes: &[u8], gates: usize)
+    requires { ⌜ (headRefusal (now bytes) ≡ 0) × (gates ≤ gatesOf (headIn (now bytes))) ⌝ }
+{
+    io::write_all(
+        STDOUT_FILENO,
+        b"ray gate azimuth range value quality x y column row\n",
+    );
+    let mut k = 0;
+    while k < gates {
+        print_line(bytes, k);
+        k += 1;
+    }
+}
+
+fn print_line(bytes: &[u8], k: usize)
+    requires { ⌜ (headRefusal (now bytes) ≡ 0) × (k < gatesOf (headIn (now bytes))) ⌝ }
+{
+    let mut line = [0u8; 256];
+    let n = gate_text::ledger_line(bytes, k, &mut line);
+    io::write_all(STDOUT_FILENO, &line[..n]);
+}

@@ -1,0 +1,5 @@
+pub mod StoredText
+pub mod CellLines
+pub mod PlacedTotal
+pub mod GoodRecord
+pub mod SheetAnswers

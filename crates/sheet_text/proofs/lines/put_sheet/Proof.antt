@@ -1,0 +1,30 @@
+-- `sheet_text::lines::put_sheet` meets its contract. Assumes nothing.
+use borrow.Author.Needs.{needs}
+use Rattle.sheet_text.specs.SheetText.{sheetLines}
+use Rattle.sheet_text.proofs.StoredText.{stored-then}
+use Rattle.sheet_text.proofs.lines.put_sheet.Statement.{statement}
+use Rattle.sheet_text.proofs.lines.put_sheet.Tie as tie
+
+total-requires : tie.Need-total-requires
+total-requires c κs = search needs
+
+put-top-requires : tie.Need-put-top-requires
+put-top-requires c κs = search needs
+
+put-cells-requires : tie.Need-put-cells-requires
+put-cells-requires c κs = search needs
+
+same-length : tie.Need-same-length
+same-length c = search needs
+
+returns : tie.Need-returns
+unfolding sheetLines
+returns c =
+    let cells = c .before .before in
+    let top = cells .before .before .before .before in
+    let counted = top .before .before in
+    (cells .put-cells .ensures .0, stored-then (rw (counted .total .ensures) at (top .put-top .ensures .1)) (cells .put-cells .ensures .1))
+
+pub put-sheet-spec : {M : Type 1} → statement M
+put-sheet-spec =
+    tie.close (tie.spec total-requires put-top-requires put-cells-requires same-length returns)

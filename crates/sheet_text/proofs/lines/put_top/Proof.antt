@@ -1,0 +1,71 @@
+-- `sheet_text::lines::put_top` meets its contract. Assumes nothing.
+use native.Mathlib.Omega.{arith}
+use Rattle.sheet_text.specs.SheetText.{gridWord, gatesWord, placedWord, topLines}
+use Rattle.sheet_text.proofs.StoredText.{stored, stored-then, stored-line-more, stored-line-last}
+use borrow.Author.Needs.{needs}
+use Rattle.sheet_text.proofs.lines.put_top.Statement.{statement}
+use Rattle.sheet_text.proofs.lines.put_top.Tie as tie
+
+slice-aggregate-put-word : tie.Need-slice-aggregate-put-word
+slice-aggregate-put-word c = search needs
+
+put-word-requires : tie.Need-put-word-requires
+put-word-requires c κs = search needs
+
+put-number-requires : tie.Need-put-number-requires
+put-number-requires c κs = search needs
+
+put-number-requires-2 : tie.Need-put-number-requires-2
+put-number-requires-2 c κs = search needs
+
+slice-aggregate-put-word-2 : tie.Need-slice-aggregate-put-word-2
+slice-aggregate-put-word-2 c = search needs
+
+put-word-requires-2 : tie.Need-put-word-requires-2
+put-word-requires-2 c κs = search needs
+
+put-number-requires-3 : tie.Need-put-number-requires-3
+put-number-requires-3 c κs = search needs
+
+slice-aggregate-put-word-3 : tie.Need-slice-aggregate-put-word-3
+slice-aggregate-put-word-3 c = search needs
+
+put-word-requires-3 : tie.Need-put-word-requires-3
+put-word-requires-3 c κs = search needs
+
+put-number-requires-4 : tie.Need-put-number-requires-4
+put-number-requires-4 c κs = search needs
+
+same-length : tie.Need-same-length
+same-length c = search needs
+
+returns : tie.Need-returns
+unfolding gridWord gatesWord placedWord topLines
+returns c =
+    let a = c .before .before .before .before .before .before .before .before .before .before .before .before .before .before .before .before .before .before .before .before .before .before .before .before .before .before .before .before .put-word .ensures in
+    let b = c .before .before .before .before .before .before .before .before .before .before .before .before .before .before .before .before .before .before .before .before .before .before .before .before .put-number .ensures in
+    let c′ = c .before .before .before .before .before .before .before .before .before .before .before .before .before .before .before .before .before .before .before .before .put-number2 .ensures in
+    let d = c .before .before .before .before .before .before .before .before .before .before .before .before .before .before .before .put-word2 .ensures in
+    let e = c .before .before .before .before .before .before .before .before .before .before .before .put-number3 .ensures in
+    let f = c .before .before .before .before .before .before .put-word3 .ensures in
+    let g = c .before .before .put-number4 .ensures in (
+      omega (arith, a .0, b .0, c′ .0, d .0, e .0, f .0, g .0),
+      stored-then (stored-line-more gridWord _ _ (stored (a .0) (a .1)) (stored-line-more _ _ _ (b .1) (stored-line-last _ (c′ .1)))) (stored-line-more gatesWord _ _ (stored (d .0) (d .1)) (stored-line-more _ _ _ (e .1) (stored-line-more placedWord _ _ (stored (f .0) (f .1)) (stored-line-last _ (g .1))))),
+    )
+
+pub put-top-spec : {M : Type 1} → statement M
+put-top-spec =
+    tie.close
+    (tie.spec
+    slice-aggregate-put-word
+    put-word-requires
+    put-number-requires
+    put-number-requires-2
+    slice-aggregate-put-word-2
+    put-word-requires-2
+    put-number-requires-3
+    slice-aggregate-put-word-3
+    put-word-requires-3
+    put-number-requires-4
+    same-length
+    returns)

@@ -1,0 +1,71 @@
+-- `sheet_text::page::sheet` meets its contract. Assumes nothing.
+use mathlib.Core.Path.{sym, _∙_}
+use Rattle.sheet_text.proofs.SheetAnswers.{bytes-too-many, is-refused, is-good, is-sized, printed}
+use borrow.Author.Needs.{needs}
+use Rattle.sheet_text.proofs.page.sheet.Statement.{statement}
+use Rattle.sheet_text.proofs.page.sheet.Tie as tie
+
+put-too-large-requires : tie.Need-put-too-large-requires
+put-too-large-requires c κs = search needs
+
+same-length : tie.Need-same-length
+same-length c = search needs
+
+returns : tie.Need-returns
+returns c =
+    let put = c .before .before .put-too-large .ensures in
+    let text = printed (put .0) (c .before .before .before .before .before .before .before .pre) (bytes-too-many _ (c .before .before .before .before .if1 .taken)) (put .1) in
+    (text .the-length, (put .0, text .the-page))
+
+read-head-requires : tie.Need-read-head-requires
+read-head-requires c κs = search needs
+
+enum-known-number : tie.Need-enum-known-number
+enum-known-number c = search needs
+
+put-refused-requires : tie.Need-put-refused-requires
+put-refused-requires c κs = search needs
+
+enum-known-head : tie.Need-enum-known-head
+enum-known-head c = search needs
+
+sized-sheet-requires : tie.Need-sized-sheet-requires
+sized-sheet-requires c κs =
+    let good = is-good _ _ (sym (c .before .before .head .given .1) ∙ c .before .before .before .before .read-head .ensures) in
+    (good .0, good .1, c .before .before .before .before .before .before .before .before .pre)
+
+same-length-2 : tie.Need-same-length-2
+same-length-2 c = search needs
+
+returns-2 : tie.Need-returns-2
+returns-2 c =
+    let put = c .before .before .put-refused .ensures in
+    let text = printed (put .0) (c .before .before .before .before .before .before .before .before .before .before .before .pre) (is-refused _ _ (c .before .before .before .before .before .before .before .before .if1 .left) (sym (c .before .before .before .before .before .number .given .1) ∙ c .before .before .before .before .before .before .before .read-head .ensures)) (put .1) in
+    (text .the-length, (put .0, text .the-page))
+
+same-length-3 : tie.Need-same-length-3
+same-length-3 c = search needs
+
+returns-3 : tie.Need-returns-3
+returns-3 c =
+    let put = c .before .before .sized-sheet .ensures in
+    let good = is-good _ _ (sym (c .before .before .before .before .before .head .given .1) ∙ c .before .before .before .before .before .before .before .read-head .ensures) in
+    let text = printed (put .0) (c .before .before .before .before .before .before .before .before .before .before .before .pre) (is-sized _ (c .before .before .before .before .before .before .before .before .if1 .left) (good .0)) (put .1) in
+    (text .the-length, (put .0, text .the-page))
+
+pub sheet-spec : {M : Type 1} → statement M
+sheet-spec =
+    tie.close
+    (tie.spec
+    put-too-large-requires
+    same-length
+    returns
+    read-head-requires
+    enum-known-number
+    put-refused-requires
+    enum-known-head
+    sized-sheet-requires
+    same-length-2
+    returns-2
+    same-length-3
+    returns-3)

@@ -1,0 +1,110 @@
+-- `sheet_text::record_sheet::cells_text` meets its contract: read, remapped, printed. Assumes nothing.
+use mathlib.Core.Path.{sym, _∙_}
+use native.Mathlib.Omega.{arith}
+use Rattle.sheet_text.proofs.GoodRecord.{ReadLists, Cells, grid-good, columns-least, read-lists, remapped, counts-length, means-length, cell-qualities-length, is-sheet}
+use Rattle.sheet_text.proofs.StoredText.{stored-as}
+use borrow.Author.Needs.{needs}
+use Rattle.sheet_text.proofs.record_sheet.cells_text.Statement.{statement}
+use Rattle.sheet_text.proofs.record_sheet.cells_text.Tie as tie
+
+-- what the function was given, from the step that reads the record and from the one that remaps it
+abbrev given : tie.After-read-scan → tie.Start
+given c = c .before .before .before .before .before .before .before .before .before .before .before .before .before .before .before
+
+abbrev at-read : tie.After-remap → tie.After-read-scan
+at-read c = c .before .before .before .before .before .before .before .before .before .before .before .before .before .before .before .before
+
+abbrev given-remap : tie.After-remap → tie.Start
+given-remap c = given (at-read c)
+
+-- ---- what each step leaves
+
+read-done : (c : tie.After-read-scan) → ReadLists (given c .args .bytes .now) (c .read-scan .last .1 .0) (c .read-scan .last .1 .1 .0) (c .read-scan .last .1 .1 .1 .0)
+read-done c = read-lists (given c .pre .0) (given c .pre .1) (c .read-scan .ensures)
+
+cells-done : (c : tie.After-remap) → Cells (given-remap c .args .bytes .now) (given-remap c .args .head) (c .remap .last .1 .1 .1 .1 .1 .0) (c .remap .last .1 .1 .1 .1 .1 .1 .1 .1 .0) (c .remap .last .1 .1 .1 .1 .1 .1 .1 .1 .1 .0)
+cells-done c = remapped (given-remap c .pre .0) (given-remap c .pre .1) (read-done (at-read c)) (c .remap .ensures .1)
+
+read-scan-requires : tie.Need-read-scan-requires
+read-scan-requires c κs = search needs
+
+remap-requires : tie.Need-remap-requires
+remap-requires c κs = search needs
+
+window-of-requires : tie.Need-window-of-requires
+window-of-requires c κs = grid-good (c .before .before .before .before .before .before .before .before .before .before .before .before .before .before .before .before .before .before .before .before .before .before .before .before .before .before .before .before .before .before .before .before .before .before .before .before .before .before .before .before .before .before .before .pre .0)
+
+gates-of-requires : tie.Need-gates-of-requires
+gates-of-requires c κs = search needs
+
+put-sheet-requires : tie.Need-put-sheet-requires
+put-sheet-requires c κs =
+    let remap = c .before .before .before .before .before .before .before .before .before .before .before .before .before .before .before .before .before .before in
+    let start = given-remap remap in
+    let cells = cells-done remap in (
+      rw (c .before .before .before .before .before .window-of .ensures) (columns-least (start .pre .0)),
+      omega (arith, counts-length cells, start .pre .0 .cells-most),
+      means-length cells ∙ sym (counts-length cells),
+      cell-qualities-length cells ∙ sym (counts-length cells),
+      start .pre .2,
+    )
+
+same-length : tie.Need-same-length
+same-length c = c .before .before .before .before .before .before .before .before .before .before .before .before .before .before .before .before .before .before .before .before .before .before .before .before .before .before .before .before .before .before .before .before .before .before .before .before .azimuths .given
+
+same-length-2 : tie.Need-same-length-2
+same-length-2 c = c .before .before .before .before .before .before .before .before .before .before .before .before .before .before .before .before .before .before .before .before .before .before .before .before .before .before .before .before .before .before .before .before .before .before .values .given
+
+same-length-3 : tie.Need-same-length-3
+same-length-3 c = c .before .before .before .before .before .before .before .before .before .before .before .before .before .before .before .before .before .before .before .before .before .before .before .before .before .before .before .before .before .before .before .before .qualities .given
+
+same-length-4 : tie.Need-same-length-4
+same-length-4 c = search needs
+
+same-length-5 : tie.Need-same-length-5
+same-length-5 c = search needs
+
+same-length-6 : tie.Need-same-length-6
+same-length-6 c = search needs
+
+same-length-7 : tie.Need-same-length-7
+same-length-7 c = search needs
+
+same-length-8 : tie.Need-same-length-8
+same-length-8 c = search needs
+
+same-length-9 : tie.Need-same-length-9
+same-length-9 c = search needs
+
+same-length-10 : tie.Need-same-length-10
+same-length-10 c = search needs
+
+returns : tie.Need-returns
+returns c =
+    let put = c .before .before in
+    let remap = c .before .before .before .before .before .before .before .before .before .before .before .before .before .before .before .before .before .before .before .before .before in (
+      put .put-sheet .ensures .0,
+      stored-as (is-sheet (given-remap remap .pre .0) (cells-done remap))
+          (rw (c .before .before .before .before .before .before .before .before .window-of .ensures, c .before .before .before .before .before .before .before .gates-of .ensures) at (put .put-sheet .ensures .1)),
+    )
+
+pub cells-text-spec : {M : Type 1} → statement M
+cells-text-spec =
+    tie.close
+    (tie.spec
+    read-scan-requires
+    remap-requires
+    window-of-requires
+    gates-of-requires
+    put-sheet-requires
+    same-length
+    same-length-2
+    same-length-3
+    same-length-4
+    same-length-5
+    same-length-6
+    same-length-7
+    same-length-8
+    same-length-9
+    same-length-10
+    returns)

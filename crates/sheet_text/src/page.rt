@@ -1,0 +1,45 @@
+// What is printed for any bytes.
+use crate::lines::put_refused;
+use crate::lines::put_too_large;
+use crate::record_sheet::good_sheet;
+use remap::ScanHead;
+use scan_record::ReadScan;
+ghost use mathlib.Core.List.{_++_};
+ghost use mathlib.Core.Path.{_≡_};
+ghost use Prim.Native.Nat.{_≤_};
+ghost use lib.ListN.{length, drop};
+ghost use Rattle.scan_record.specs.RecordPlaces.{headIn};
+ghost use Rattle.scan_record.specs.RecordRefusal.{headRefusal};
+ghost use Rattle.sheet_text.specs.SheetText.{sizedSheet, sheetText};
+ghost use Rattle.sheet_text.specs.SheetRoom.{Stored};
+
+// At most 4,096 gates and 1,024 cells.
+fn sized_sheet(bytes: &[u8], head: ScanHead, page: &mut [u8]) -> usize
+    requires { ⌜ (headRefusal (now bytes) ≡ 0) × (head ≡ headIn (now bytes)) × (120000 ≤ length (now page)) ⌝ }
+    ensures { λ r. ⌜ r ≤ 120000 ⌝ }
+    ensures { λ r. ⌜ Stored (now (page .entry)) (now (page .exit)) 0 r (sizedSheet (now (bytes .entry))) ⌝ }
+{
+    if 4096 < remap::gates_of(head) {
+        return put_too_large(page);
+    }
+    if 1024 < remap::cells_of(head) {
+        return put_too_large(page);
+    }
+    good_sheet(bytes, head, page)
+}
+
+// Any bytes. It answers the length of the text, stores it from the start of the page on, and leaves the rest of the page as it was.
+pub fn sheet(bytes: &[u8], page: &mut [u8]) -> usize
+    requires { ⌜ 120000 ≤ length (now page) ⌝ }
+    ensures { λ r. ⌜ r ≡ length (sheetText (now (bytes .entry))) ⌝ }
+    ensures { λ r. ⌜ r ≤ 120000 ⌝ }
+    ensures { λ r. ⌜ now (page .exit) ≡ sheetText (now (bytes .entry)) ++ drop (length (sheetText (now (bytes .entry)))) (now (page .entry)) ⌝ }
+{
+    if 16384 < bytes.len() {
+        return put_too_large(page);
+    }
+    match scan_record::read_head(bytes) {
+        ReadScan::Refused(number) => put_refused(page, number),
+        ReadScan::Head(head) => sized_sheet(bytes, head, page),
+    }
+}

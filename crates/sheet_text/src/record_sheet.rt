@@ -1,0 +1,87 @@
+// The sheet of a good record within the two sizes.
+use crate::lines::put_sheet;
+use remap::ScanHead;
+ghost use Prim.Native.Nat.{_≤_};
+ghost use lib.ListN.{length};
+ghost use Rattle.sheet_text.specs.SheetText.{goodSheet};
+ghost use Rattle.sheet_text.specs.SheetRoom.{Stored, Sized, Fitting};
+
+// With lists of exact lengths: read, remap, print.
+fn cells_text(
+    bytes: &[u8],
+    head: ScanHead,
+    azimuths: &mut [u32],
+    values: &mut [u16],
+    qualities: &mut [u8],
+    ledger: &mut [u32],
+    counts: &mut [u32],
+    quality_sums: &mut [u32],
+    value_sums: &mut [u64],
+    means: &mut [u16],
+    cell_qualities: &mut [u8],
+    page: &mut [u8],
+) -> usize
+    requires { ⌜ Sized (now bytes) head × Fitting head (now azimuths) (now values) (now qualities) (now ledger) (now counts) (now «quality_sums») (now «value_sums») (now means) (now «cell_qualities») × (120000 ≤ length (now page)) ⌝ }
+    ensures { λ r. ⌜ r ≤ 120000 ⌝ }
+    ensures { λ r. ⌜ Stored (now (page .entry)) (now (page .exit)) 0 r (goodSheet (now (bytes .entry))) ⌝ }
+{
+    scan_record::read_scan(bytes, azimuths, values, qualities);
+    remap::remap(
+        head,
+        azimuths,
+        values,
+        qualities,
+        ledger,
+        counts,
+        quality_sums,
+        value_sums,
+        means,
+        cell_qualities,
+    );
+    let grid = head.grid;
+    let window = placement::window_of(grid);
+    let gates = remap::gates_of(head);
+    put_sheet(
+        page,
+        window.columns,
+        window.rows,
+        gates,
+        counts,
+        means,
+        cell_qualities,
+    )
+}
+
+// The lists are parts of arrays that hold the largest scan that is printed.
+pub fn good_sheet(bytes: &[u8], head: ScanHead, page: &mut [u8]) -> usize
+    requires { ⌜ Sized (now bytes) head × (120000 ≤ length (now page)) ⌝ }
+    ensures { λ r. ⌜ r ≤ 120000 ⌝ }
+    ensures { λ r. ⌜ Stored (now (page .entry)) (now (page .exit)) 0 r (goodSheet (now (bytes .entry))) ⌝ }
+{
+    let rays = head.rays as usize;
+    let gates = remap::gates_of(head);
+    let cells = remap::cells_of(head);
+    let mut azimuths = [0u32; 720];
+    let mut values = [0u16; 4096];
+    let mut qualities = [0u8; 4096];
+    let mut ledger = [0u32; 4096];
+    let mut counts = [0u32; 1024];
+    let mut quality_sums = [0u32; 1024];
+    let mut value_sums = [0u64; 1024];
+    let mut means = [0u16; 1024];
+    let mut cell_qualities = [0u8; 1024];
+    cells_text(
+        bytes,
+        head,
+        &mut azimuths[..rays],
+        &mut values[..gates],
+        &mut qualities[..gates],
+        &mut ledger[..gates],
+        &mut counts[..cells],
+        &mut quality_sums[..cells],
+        &mut value_sums[..cells],
+        &mut means[..cells],
+        &mut cell_qualities[..cells],
+        page,
+    )
+}

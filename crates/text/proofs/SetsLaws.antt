@@ -1,0 +1,17 @@
+-- Lists stored one behind the other in a buffer. Assumes nothing.
+use mathlib.Core.Path.{_≡_, ap, _∙_}
+use mathlib.Core.List.{List, [], _∷_, _++_}
+use Prim.Native.Nat.{ℕ, suc, _+_}
+use native.Mathlib.Omega.{arith}
+use lib.ListN.{length, set}
+use lib.Seq.{sets}
+
+-- a second list right behind the first
+pub sets-append : (l : List ℕ) (i : ℕ) (xs ys : List ℕ) → sets (sets l i xs) (i + length xs) ys ≡ sets l i (xs ++ ys)
+sets-append l i [] ys = ap (λ (k : ℕ). sets l k ys) (omega arith)
+sets-append l i (x ∷ xs) ys =
+    ap (λ (k : ℕ). sets (sets (set l i x) (suc i) xs) k ys) (omega arith) ∙ sets-append (set l i x) (suc i) xs ys
+
+-- one element more
+pub sets-next : (l l′ : List ℕ) (i k : ℕ) (xs : List ℕ) (y : ℕ) → k ≡ i + length xs → l′ ≡ sets l i xs → set l′ k y ≡ sets l i (xs ++ y ∷ [])
+sets-next l l′ i k xs y p q = rw (p, q) (sets-append l i xs (y ∷ []))

@@ -1,0 +1,20 @@
+# The story that `make run` shows: how a number of a sheet came about. Each command is printed behind a $ and then run.
+# README.md has the same text; the test command compares the two.
+set -eu
+cd "$(dirname "$0")/.."
+
+say() { printf '# %s\n' "$1"; }
+show() { printf '$ %s\n' "$1"; eval "$1"; }
+
+say 'The sheet of a shower: the grid, the gates, then column, row, mean, quality and count of each cell.'
+show 'target/bin/sheet < examples/hrap.scan'
+say 'Column 0, row 1 has the mean 434 and the count 5. The ledger has the gates that lie in it, with their positions:'
+say 'ray gate azimuth range value quality x y column row'
+show "target/bin/ledger < examples/hrap.scan | awk '\$9 == 0 && \$10 == 1'"
+say '65534 is no echo and counts as 0, 65535 is not measured and does not count:'
+say '(73 + 0 + 625 + 720 + 756) / 5 = 2174 / 5, which is 434 and 4 left over; a mean is never rounded upwards.'
+say 'Ray 9 looks west and leaves the grid at x = (573 - 401) x 476250 = 81915000. Gates 5 to 9 lie less than one cell'
+say 'beyond. Cut towards zero, their column would be 0, and their rain would count there; by floor it is -1, outside:'
+show "target/bin/ledger < examples/hrap.scan | awk '\$1 == 9 && \$2 >= 3 && \$2 <= 9'"
+say 'Gate 5 of that ray, placed again by itself:'
+show 'target/bin/gate 353300 -972800 2700000 550000 hrap 573 320 6 5'
