@@ -10,7 +10,7 @@ sys.path.insert(0, str(ROOT / "tests"))
 SHOWN = 10  # differences printed of one comparison
 
 # What the prover says where an edit no longer fits the proof file, and so shows nothing of the contract.
-UNFIT = re.compile(r"has no `Need-|has no `Tie`|no declaration named|Parse|Scope|is not in scope")
+UNFIT = re.compile(r"has no `Need-|has no `Tie`|no declaration named|\bParse\b|\bScope\b|is not in scope")
 
 
 class Count:
