@@ -1,0 +1,60 @@
+//! Reads a scan record from standard input and prints its grid, as the program sheet does, then its ledger.
+
+use std::io::{self, Read, Write};
+use std::process::ExitCode;
+
+use uldrevin::{read_record, remap, Refusal, Remapped, ScanRead, NOT_MEASURED, OUTSIDE};
+
+fn remapped(record: &[u8]) -> Result<(ScanRead, Remapped), Refusal> {
+    let scan = read_record(record)?;
+    let remapped = remap(scan.head, scan.gate_lists())?;
+    Ok((scan, remapped))
+}
+
+fn print_grid(out: &mut impl Write, scan: &ScanRead, remapped: &Remapped) -> io::Result<()> {
+    let columns = scan.head.grid.columns() as usize;
+    let measured_inside = |(&value, &cell): (&u16, &u32)| value != NOT_MEASURED && cell != OUTSIDE;
+    let gates = scan.values.iter().zip(&remapped.ledger);
+    let placed = gates.filter(|&gate| measured_inside(gate)).count();
+    writeln!(out, "grid {columns} {}", scan.head.grid.rows())?;
+    writeln!(out, "gates {} placed {placed}", scan.values.len())?;
+    for (cell, &count) in remapped.counts.iter().enumerate() {
+        if count != 0 {
+            let (column, row) = (cell % columns, cell / columns);
+            let (mean, quality) = (remapped.means[cell], remapped.cell_qualities[cell]);
+            writeln!(out, "{column} {row} {mean} {quality} {count}")?;
+        }
+    }
+    Ok(())
+}
+
+fn print_ledger(out: &mut impl Write, scan: &ScanRead, remapped: &Remapped) -> io::Result<()> {
+    let gates = scan.head.gates as usize;
+    writeln!(out, "ledger")?;
+    for (k, &cell) in remapped.ledger.iter().enumerate() {
+        let (ray, gate) = (k / gates, k % gates);
+        if cell == OUTSIDE {
+            writeln!(out, "{ray} {gate} outside")?;
+        } else {
+            writeln!(out, "{ray} {gate} {cell}")?;
+        }
+    }
+    Ok(())
+}
+
+fn main() -> io::Result<ExitCode> {
+    let mut record = Vec::new();
+    io::stdin().read_to_end(&mut record)?;
+    let mut out = io::stdout().lock();
+    match remapped(&record) {
+        Err(refusal) => {
+            writeln!(out, "refused {}", refusal.number)?;
+            Ok(ExitCode::FAILURE)
+        }
+        Ok((scan, remapped)) => {
+            print_grid(&mut out, &scan, &remapped)?;
+            print_ledger(&mut out, &scan, &remapped)?;
+            Ok(ExitCode::SUCCESS)
+        }
+    }
+}

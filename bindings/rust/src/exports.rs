@@ -1,0 +1,173 @@
+//! The exported functions, as include/uldrevin.h has them: a list is lent as a pointer and its length.
+
+extern "C" {
+    pub fn uldrevin_sine(angle: i64) -> i64;
+    pub fn uldrevin_cosine(angle: i64) -> i64;
+
+    pub fn uldrevin_place_radolan(
+        latitude: i64,
+        longitude: i64,
+        corner_x: i64,
+        corner_y: i64,
+        side: u32,
+        columns: u32,
+        rows: u32,
+        azimuth: u32,
+        range: u32,
+        cell: *mut u32,
+        x: *mut i64,
+        y: *mut i64,
+    ) -> u32;
+
+    pub fn uldrevin_place_hrap(
+        latitude: i64,
+        longitude: i64,
+        i: i64,
+        j: i64,
+        columns: u32,
+        rows: u32,
+        azimuth: u32,
+        range: u32,
+        cell: *mut u32,
+        x: *mut i64,
+        y: *mut i64,
+    ) -> u32;
+
+    pub fn uldrevin_remap_radolan(
+        rays: u32,
+        gates: u32,
+        first: u32,
+        spacing: u32,
+        latitude: i64,
+        longitude: i64,
+        corner_x: i64,
+        corner_y: i64,
+        side: u32,
+        columns: u32,
+        rows: u32,
+        by_quality: u32,
+        azimuths: *const u32,
+        azimuths_length: usize,
+        values: *const u16,
+        values_length: usize,
+        qualities: *const u8,
+        qualities_length: usize,
+        ledger: *mut u32,
+        ledger_length: usize,
+        counts: *mut u32,
+        counts_length: usize,
+        quality_sums: *mut u32,
+        quality_sums_length: usize,
+        value_sums: *mut u64,
+        value_sums_length: usize,
+        means: *mut u16,
+        means_length: usize,
+        cell_qualities: *mut u8,
+        cell_qualities_length: usize,
+    ) -> u32;
+
+    pub fn uldrevin_remap_hrap(
+        rays: u32,
+        gates: u32,
+        first: u32,
+        spacing: u32,
+        latitude: i64,
+        longitude: i64,
+        i: i64,
+        j: i64,
+        columns: u32,
+        rows: u32,
+        by_quality: u32,
+        azimuths: *const u32,
+        azimuths_length: usize,
+        values: *const u16,
+        values_length: usize,
+        qualities: *const u8,
+        qualities_length: usize,
+        ledger: *mut u32,
+        ledger_length: usize,
+        counts: *mut u32,
+        counts_length: usize,
+        quality_sums: *mut u32,
+        quality_sums_length: usize,
+        value_sums: *mut u64,
+        value_sums_length: usize,
+        means: *mut u16,
+        means_length: usize,
+        cell_qualities: *mut u8,
+        cell_qualities_length: usize,
+    ) -> u32;
+
+    pub fn uldrevin_record_head(
+        record: *const u8,
+        record_length: usize,
+        head: *mut [i64; 13],
+    ) -> u32;
+
+    pub fn uldrevin_record_read(
+        record: *const u8,
+        record_length: usize,
+        head: *mut [i64; 13],
+        azimuths: *mut u32,
+        azimuths_length: usize,
+        values: *mut u16,
+        values_length: usize,
+        qualities: *mut u8,
+        qualities_length: usize,
+    ) -> u32;
+
+    pub fn uldrevin_record_field(
+        record: *const u8,
+        record_length: usize,
+        number: u32,
+        start: *mut u64,
+        length: *mut u64,
+    ) -> u32;
+
+    pub fn uldrevin_record_write_radolan(
+        rays: u32,
+        gates: u32,
+        first: u32,
+        spacing: u32,
+        latitude: i64,
+        longitude: i64,
+        corner_x: i64,
+        corner_y: i64,
+        side: u32,
+        columns: u32,
+        rows: u32,
+        by_quality: u32,
+        azimuths: *const u32,
+        azimuths_length: usize,
+        values: *const u16,
+        values_length: usize,
+        qualities: *const u8,
+        qualities_length: usize,
+        buffer: *mut u8,
+        buffer_length: usize,
+        length: *mut u64,
+    ) -> u32;
+
+    pub fn uldrevin_record_write_hrap(
+        rays: u32,
+        gates: u32,
+        first: u32,
+        spacing: u32,
+        latitude: i64,
+        longitude: i64,
+        i: i64,
+        j: i64,
+        columns: u32,
+        rows: u32,
+        by_quality: u32,
+        azimuths: *const u32,
+        azimuths_length: usize,
+        values: *const u16,
+        values_length: usize,
+        qualities: *const u8,
+        qualities_length: usize,
+        buffer: *mut u8,
+        buffer_length: usize,
+        length: *mut u64,
+    ) -> u32;
+}

@@ -1,0 +1,48 @@
+//! The placement of a single gate.
+
+use crate::refusal::done;
+use crate::{exports, Grid, Refusal, Site, OUTSIDE};
+
+/// Where a gate lies: its position, and its cell where it is inside the grid.
+#[derive(Clone, Copy, Debug, PartialEq, Eq)]
+pub struct Placement {
+    pub x: i64,
+    pub y: i64,
+    pub cell: Option<u32>,
+}
+
+/// Places one gate by its azimuth, 0 to 3,599,999, and its range, 0 to 46,000,000.
+///
+/// ```
+/// use uldrevin::{place, Grid, RadolanGrid, Site};
+///
+/// let site = Site { latitude: 510_000, longitude: 100_000 };
+/// let grid = Grid::Radolan(RadolanGrid { x: -52_346_220, y: -465_864_470, side: 100_000, columns: 900, rows: 900 });
+/// let placement = place(site, grid, 0, 0)?;
+/// assert_eq!((placement.x, placement.cell), (0, Some(404_623)));
+/// assert_eq!(place(site, grid, 3_600_000, 0).unwrap_err().number, 7);
+/// # Ok::<(), uldrevin::Refusal>(())
+/// ```
+pub fn place(site: Site, grid: Grid, azimuth: u32, range: u32) -> Result<Placement, Refusal> {
+    let Site {
+        latitude,
+        longitude,
+    } = site;
+    let (mut cell, mut x, mut y) = (OUTSIDE, 0, 0);
+    // The pointers are to three numbers of this function.
+    let number = unsafe {
+        match grid {
+            Grid::Radolan(g) => exports::uldrevin_place_radolan(
+                latitude, longitude, g.x, g.y, g.side, g.columns, g.rows, azimuth, range,
+                &mut cell, &mut x, &mut y,
+            ),
+            Grid::Hrap(g) => exports::uldrevin_place_hrap(
+                latitude, longitude, g.i, g.j, g.columns, g.rows, azimuth, range, &mut cell,
+                &mut x, &mut y,
+            ),
+        }
+    };
+    done(number)?;
+    let cell = (cell != OUTSIDE).then_some(cell);
+    Ok(Placement { x, y, cell })
+}
