@@ -1,6 +1,11 @@
 # make run: prove the programs and show how one number came about. make test: everything that is proved or compared.
-# make bench: times, as ratios.
-.PHONY: run test library bench
+# make library: the proved functions for C, Rust and Python. make compare N=..: N gates against the plain program. make bench: times.
+.PHONY: run test library compare bench
+
+ARCHIVE = target/staticlib/libuldrevin.a
+SHARED = target/libuldrevin.so
+CARGO = cargo --offline --quiet
+N = 1000000
 
 run:
 	rt check sheet ledger gate
@@ -9,13 +14,17 @@ run:
 test:
 	python3 tests/run.py
 
-# The proved archive as a shared library, for the comparisons.
-library:
-	rt staticlib uldrevin
-	gcc -shared -o target/libuldrevin.so -Wl,--whole-archive target/staticlib/libuldrevin.a -Wl,--no-whole-archive
+library: $(SHARED)
 
-# Times of the whole scan, of the same gates one by one and of a plain program, from one run.
-bench:
+# The proved archive, and the same as a shared library.
+$(SHARED): $(shell find crates crates.txt -type f)
 	rt staticlib uldrevin
-	rustc -O --edition 2021 tests/benchmark/benchmark.rs -L target/staticlib -l static=uldrevin -o target/benchmark
-	target/benchmark
+	gcc -shared -o $@ -Wl,--whole-archive $(ARCHIVE) -Wl,--no-whole-archive
+
+# N gates, as single gates, scans and records, through the library and the plain program; SEED=.. repeats a run.
+compare: library
+	$(CARGO) run --release -p at_scale -- $(N) $(SEED)
+
+# Times of whole scans, of the same gates one by one, of the plain program, and of numpy with PROJ, from one run.
+bench: library
+	$(CARGO) run --release -p benchmark

@@ -1,0 +1,415 @@
+"""Radar gates on the cells of an HRAP or a RADOLAN grid: Uldrevin's proved library for Python.
+
+Whole numbers only. Angles are ten-thousandths of a degree, lengths are centimetres. Gates are numbered ray by ray, cells row by row
+from the south-west, so that row 0 is the southernmost. Document 01's example, two gates in the second of two cells:
+
+>>> import uldrevin
+>>> site = uldrevin.Site(latitude=600_000, longitude=-1_050_000)
+>>> grid = uldrevin.Hrap(i=400, j=932, columns=2, rows=1)
+>>> remapped = uldrevin.remap(site, grid, uldrevin.BY_QUALITY, first=0, spacing=100_000,
+...                           azimuths=[0], values=[1, 7], qualities=[90, 10])
+>>> uldrevin.flat(remapped.ledger)
+[1, 1]
+>>> [uldrevin.flat(cells)[1] for cells in (remapped.means, remapped.cell_qualities, remapped.counts)]
+[1, 50, 2]
+
+Lists that come back are numpy arrays where numpy can be imported: of shape (rays, gates) for gates and (rows, columns) for cells.
+Otherwise they are array.array, flat. `flat` makes a plain list of either.
+
+Lists that are given may be
+- numpy arrays of exactly the dtype: azimuths uint32 of shape (rays,), values uint16 and qualities uint8 of shape (rays, gates);
+- plain lists or array.array of whole numbers; values and qualities either flat, ray by ray, with as many rays as azimuths, or a list
+  of rays.
+
+A refusal of document 01 raises Refusal. Anything that the library could not be asked, such as a number that its type does not hold,
+raises ValueError or TypeError. The shared library is the file that the environment variable ULDREVIN_LIBRARY names, or else
+target/libuldrevin.so of the repository.
+"""
+import os
+from array import array
+from ctypes import CDLL, POINTER, byref, c_int64, c_size_t, c_uint32, c_uint64, c_void_p
+from math import prod
+from operator import index
+from pathlib import Path
+from typing import Any, NamedTuple
+
+try:
+    import numpy
+except ImportError:
+    numpy = None
+
+PLAIN = 0
+BY_QUALITY = 1
+
+NO_ECHO = 65_534  # a value: measured with no echo, counts as 0
+NOT_MEASURED = 65_535  # a value: contributes nothing
+NO_MEAN = 65_535  # a mean with nothing to divide by
+OUTSIDE = 4_294_967_295  # the ledger entry of a gate outside the grid
+
+SENTENCES = {
+    1: "the number of rays is not 1 to 720",
+    2: "the number of gates in a ray is not 1 to 1,000",
+    3: "the first centre, the spacing, the last centre or the range is out of bounds",
+    4: "the latitude is not 200,000 to 750,000 or the longitude is not -1,800,000 to 1,800,000",
+    5: "a number of the grid is out of bounds",
+    6: "the length of a list is not exact",
+    7: "an azimuth is over 3,599,999",
+    8: "a quality is over 100",
+    11: "the record is cut short",
+    12: "a tag of the record is not the next one",
+    13: "a length, the kind or the weighting byte of the record is wrong",
+    14: "bytes stand after field 7 of the record",
+    15: "the scan has over 32,767 gates, too many for a record",
+    16: "the buffer is shorter than the record",
+}
+LENGTH_NOT_EXACT = 6
+BUFFER_TOO_SHORT = 16
+
+
+class Refusal(ValueError):
+    """A refusal of document 01, with its number and a sentence on it.
+
+    >>> str(Refusal(7))
+    'refusal 7: an azimuth is over 3,599,999'
+    """
+
+    def __init__(self, number):
+        super().__init__(number)
+        self.number = number
+        self.sentence = SENTENCES[number]
+
+    def __str__(self):
+        return f"refusal {self.number}: {self.sentence}"
+
+
+class Site(NamedTuple):
+    """Where the radar stands; east is positive."""
+
+    latitude: int
+    longitude: int
+
+
+class Radolan(NamedTuple):
+    """A RADOLAN grid: its south-west corner, the side of a cell and its size."""
+
+    x: int
+    y: int
+    side: int
+    columns: int
+    rows: int
+
+
+class Hrap(NamedTuple):
+    """An HRAP grid: its first column I and first row J of the mesh and its size."""
+
+    i: int
+    j: int
+    columns: int
+    rows: int
+
+
+class Placement(NamedTuple):
+    """The position of a gate on the map, and its cell: row x columns + column, or None outside the grid."""
+
+    x: int
+    y: int
+    cell: int | None
+
+
+class ScanHead(NamedTuple):
+    """The numbers of a record, without its lists."""
+
+    site: Site
+    rays: int
+    gates: int
+    first: int
+    spacing: int
+    grid: Radolan | Hrap
+    weighting: int
+
+
+class Scan(NamedTuple):
+    """A scan in the order in which remap and write_record take it: `remap(*scan)`."""
+
+    site: Site
+    grid: Radolan | Hrap
+    weighting: int
+    first: int
+    spacing: int
+    azimuths: Any
+    values: Any
+    qualities: Any
+
+
+class Remapped(NamedTuple):
+    """The ledger, an entry for each gate; then the sums and the published numbers, one for each cell."""
+
+    ledger: Any
+    counts: Any
+    quality_sums: Any
+    value_sums: Any
+    means: Any
+    cell_qualities: Any
+
+
+# The library. A list is lent as a pointer and a length.
+
+_KINDS = {Radolan: "radolan", Hrap: "hrap"}
+_GRIDS = {"radolan": [c_int64, c_int64, c_uint32, c_uint32, c_uint32], "hrap": [c_int64, c_int64, c_uint32, c_uint32]}
+
+
+def _load():
+    named = os.environ.get("ULDREVIN_LIBRARY")
+    path = Path(named) if named else Path(__file__).resolve().parents[2] / "target" / "libuldrevin.so"
+    try:
+        return CDLL(str(path.absolute()))
+    except OSError as error:
+        raise ImportError(f"The shared library of Uldrevin cannot be loaded, `make library` builds it: {error}") from None
+
+
+def _declare(library):
+    one_list = [c_void_p, c_size_t]
+    head, place = POINTER(c_int64 * 13), POINTER(c_uint64)
+    arguments = {
+        "record_head": [*one_list, head],
+        "record_field": [*one_list, c_uint32, place, place],
+        "record_read": [*one_list, head, *one_list * 3],
+    }
+    for kind, grid in _GRIDS.items():
+        scan = [*[c_uint32] * 4, c_int64, c_int64, *grid, c_uint32, *one_list * 3]
+        gate = [POINTER(c_uint32), POINTER(c_int64), POINTER(c_int64)]
+        arguments[f"place_{kind}"] = [c_int64, c_int64, *grid, c_uint32, c_uint32, *gate]
+        arguments[f"remap_{kind}"] = [*scan, *one_list * 6]
+        arguments[f"record_write_{kind}"] = [*scan, *one_list, place]
+    for name, types in arguments.items():
+        function = getattr(library, f"uldrevin_{name}")
+        function.argtypes, function.restype = types, c_uint32
+    for function in (library.uldrevin_sine, library.uldrevin_cosine):
+        function.argtypes, function.restype = [c_int64], c_int64
+    return library
+
+
+_library = _declare(_load())
+
+
+def _function(name, grid):
+    """The function for the grid's kind."""
+    if type(grid) not in _KINDS:
+        raise TypeError(f"the grid has to be a Radolan or an Hrap, and is {grid!r}")
+    return getattr(_library, f"uldrevin_{name}_{_KINDS[type(grid)]}")
+
+
+def _accept(number):
+    if number != 0:
+        raise Refusal(number)
+
+
+# Single numbers. ctypes would cut a number that its type does not hold, so they are tested here.
+
+_SIGNED = {"latitude", "longitude", "x", "y", "i", "j", "angle"}
+
+
+def _number(name, number):
+    least, greatest = (-(2**63), 2**63 - 1) if name in _SIGNED else (0, 2**32 - 1)
+    try:
+        number = index(number)
+    except TypeError:
+        raise TypeError(f"{name} has to be a whole number, and is {number!r}") from None
+    if not least <= number <= greatest:
+        raise ValueError(f"{name} is {number}, and the library takes {least:,} to {greatest:,}")
+    return number
+
+
+def _numbers(**named):
+    return [_number(name, number) for name, number in named.items()]
+
+
+# Lists. Their types go by the letters that array and numpy share: I, H, B and Q for 32, 16, 8 and 64 bits without a sign.
+
+_ANYWHERE = array("Q", [0])  # what the pointer of an empty list points to
+
+
+def _new(letter, shape):
+    """A list of zeros for the library to write."""
+    if numpy is not None:
+        return numpy.zeros(shape, letter)
+    return array(letter, bytes(prod(shape) * array(letter).itemsize))
+
+
+def _lent(lists):
+    """The pointer and the length of each list. The lists have to be kept until the call is done."""
+    return [part for one in lists for part in _pointer_and_length(one)]
+
+
+def _pointer_and_length(one):
+    address, length = one.buffer_info() if isinstance(one, array) else (one.ctypes.data, one.size)
+    return (address, length) if length else (_ANYWHERE.buffer_info()[0], 0)
+
+
+def flat(numbers):
+    """A list that came back, as a plain list of whole numbers: ray by ray, or row by row."""
+    return numbers.tolist() if isinstance(numbers, array) else numbers.ravel().tolist()
+
+
+def _held(name, letter, numbers, dimensions):
+    """A given list as the library can read it, and its shape where it has one."""
+    if numpy is not None and isinstance(numbers, numpy.ndarray):
+        return _held_numpy(name, letter, numbers, dimensions)
+    if isinstance(numbers, array) and numbers.typecode == letter:
+        return numbers, None
+    numbers, shape = list(numbers), None
+    if dimensions == 2 and numbers and hasattr(numbers[0], "__len__"):
+        numbers, shape = _joined(name, numbers)
+    return _packed(name, letter, numbers), shape
+
+
+def _held_numpy(name, letter, numbers, dimensions):
+    needed = numpy.dtype(letter)
+    if isinstance(numbers, numpy.ma.MaskedArray):
+        raise TypeError(f"{name} must not be a masked array; its method filled makes a plain one")
+    if numbers.dtype != needed:
+        raise TypeError(f"{name} must have the dtype {needed}, and has {numbers.dtype}")
+    if numbers.ndim != dimensions:
+        shape = "(rays, gates)" if dimensions == 2 else "(rays,)"
+        raise ValueError(f"{name} must have a shape {shape}, and has {numbers.shape}")
+    return numpy.require(numbers, requirements=("C", "A")), numbers.shape
+
+
+def _joined(name, rays):
+    gates = len(rays[0])
+    if any(not hasattr(ray, "__len__") or len(ray) != gates for ray in rays):
+        raise ValueError(f"each ray of {name} must have as many gates as the first")
+    return [number for ray in rays for number in ray], (len(rays), gates)
+
+
+def _packed(name, letter, numbers):
+    try:
+        return array(letter, numbers)
+    except TypeError as error:
+        raise TypeError(f"{name} must hold whole numbers: {error}") from None
+    except OverflowError:
+        greatest = 256 ** array(letter).itemsize - 1
+        wrong = next(place for place, number in enumerate(numbers) if not 0 <= number <= greatest)
+        raise ValueError(f"{name} holds {numbers[wrong]} at place {wrong}, and the library takes 0 to {greatest:,}") from None
+
+
+def _given(scan):
+    """The numbers of rays and gates, the numbers that the library takes, and the lists."""
+    azimuths, _ = _held("azimuths", "I", scan.azimuths, 1)
+    values, shape = _held("values", "H", scan.values, 2)
+    qualities, other = _held("qualities", "B", scan.qualities, 2)
+    if shape and other and shape != other:
+        raise ValueError(f"values have the shape {shape} and qualities {other}; they must have the same")
+    rays, gates = shape or other or (len(azimuths), len(values) // max(1, len(azimuths)))
+    numbers = [
+        *_numbers(rays=rays, gates=gates, first=scan.first, spacing=scan.spacing),
+        *_numbers(**Site(*scan.site)._asdict()),
+        *_numbers(**scan.grid._asdict()),
+        *_numbers(weighting=scan.weighting),
+    ]
+    return (rays, gates), numbers, [azimuths, values, qualities]
+
+
+# What is public.
+
+
+def sine(angle):
+    """The sine of an angle, times 2 to the 30th.
+
+    >>> sine(300_000)
+    536870912
+    """
+    return _library.uldrevin_sine(_number("angle", angle))
+
+
+def cosine(angle):
+    """The cosine of an angle, times 2 to the 30th."""
+    return _library.uldrevin_cosine(_number("angle", angle))
+
+
+def place(site, grid, azimuth, range):
+    """The placement of one gate.
+
+    >>> grid = Radolan(x=-52_346_220, y=-465_864_470, side=100_000, columns=900, rows=900)
+    >>> place(Site(510_000, 100_000), grid, azimuth=0, range=0).cell
+    404623
+    >>> place(Site(510_000, 100_000), grid, azimuth=3_600_000, range=0)
+    Traceback (most recent call last):
+    uldrevin.Refusal: refusal 7: an azimuth is over 3,599,999
+    """
+    function = _function("place", grid)
+    numbers = _numbers(**Site(*site)._asdict(), **grid._asdict(), azimuth=azimuth, range=range)
+    cell, x, y = c_uint32(), c_int64(), c_int64()
+    _accept(function(*numbers, byref(cell), byref(x), byref(y)))
+    return Placement(x.value, y.value, None if cell.value == OUTSIDE else cell.value)
+
+
+def remap(site, grid, weighting, first, spacing, azimuths, values, qualities):
+    """The ledger, the sums and the published cells of a scan; the module's text has an example. A weighting other than 0 is by quality."""
+    function = _function("remap", grid)
+    gates, numbers, lists = _given(Scan(site, grid, weighting, first, spacing, azimuths, values, qualities))
+    arguments = [*numbers, *_lent(lists)]
+    # Asked with empty lists, the library refuses a wrong head by its number, before lists of its size are made.
+    number = function(*arguments, *_lent([array(letter) for letter in "IIIQHB"]))
+    if number != LENGTH_NOT_EXACT:
+        raise Refusal(number)
+    cells = (grid.rows, grid.columns)
+    remapped = Remapped(_new("I", gates), *(_new(letter, cells) for letter in "IIQHB"))
+    _accept(function(*arguments, *_lent(remapped)))
+    return remapped
+
+
+def record_head(data):
+    """The numbers of a scan record."""
+    data = bytes(memoryview(data).cast("B"))
+    numbers = (c_int64 * 13)()
+    _accept(_library.uldrevin_record_head(data, len(data), byref(numbers)))
+    latitude, longitude, rays, gates, first, spacing, kind, x, y, side, columns, rows, weighting = numbers
+    grid = Radolan(x, y, side, columns, rows) if kind == 1 else Hrap(x, y, columns, rows)
+    return ScanHead(Site(latitude, longitude), rays, gates, first, spacing, grid, weighting)
+
+
+def record_field(data, number):
+    """The content of a field, as a memoryview of the caller's own bytes; empty for a number other than 1 to 7."""
+    part = memoryview(data).cast("B")
+    asked = index(number) if 0 <= index(number) < 2**32 else 0  # 0 too is a number other than 1 to 7
+    start, length = c_uint64(), c_uint64()
+    _accept(_library.uldrevin_record_field(bytes(part), len(part), asked, byref(start), byref(length)))
+    return part[start.value : start.value + length.value]
+
+
+def read_record(data):
+    """The scan of a record.
+
+    >>> data = write_record(Site(600_000, -1_050_000), Hrap(400, 932, 2, 1), BY_QUALITY, 0, 100_000, [0], [1, 7], [90, 10])
+    >>> scan = read_record(data)
+    >>> scan.grid, flat(scan.values)
+    (Hrap(i=400, j=932, columns=2, rows=1), [1, 7])
+    >>> write_record(*scan) == data
+    True
+    """
+    data = bytes(memoryview(data).cast("B"))
+    head = record_head(data)
+    gates = (head.rays, head.gates)
+    lists = [_new("I", (head.rays,)), _new("H", gates), _new("B", gates)]
+    _accept(_library.uldrevin_record_read(data, len(data), byref((c_int64 * 13)()), *_lent(lists)))
+    return Scan(head.site, head.grid, head.weighting, head.first, head.spacing, *lists)
+
+
+def write_record(site, grid, weighting, first, spacing, azimuths, values, qualities):
+    """The record of a scan, as bytes. A weighting other than 0 is by quality.
+
+    >>> len(write_record(Site(600_000, -1_050_000), Hrap(400, 932, 2, 1), PLAIN, 0, 100_000, [0], [1, 7], [90, 10]))
+    61
+    """
+    function = _function("record_write", grid)
+    (rays, gates), numbers, lists = _given(Scan(site, grid, weighting, first, spacing, azimuths, values, qualities))
+    arguments = [*numbers, *_lent(lists)]
+    length = c_uint64()
+    number = function(*arguments, *_lent([array("B")]), byref(length))  # with no room, to be told of all else first
+    if number != BUFFER_TOO_SHORT:
+        raise Refusal(number)
+    # Seven headers, then the contents, with the longer kind of grid.
+    buffer = array("B", bytes(7 * 3 + 8 + 12 + 17 + 1 + 4 * rays + 3 * rays * gates))
+    _accept(function(*arguments, *_lent([buffer]), byref(length)))
+    return buffer[: length.value].tobytes()

@@ -1,0 +1,42 @@
+"""Reads a scan record from standard input, and prints its sheet and its ledger.
+
+    python3 examples/first_grid.py < examples/hrap.scan
+"""
+import sys
+from pathlib import Path
+
+sys.path.insert(0, str(Path(__file__).resolve().parent.parent / "bindings" / "python"))
+
+import uldrevin  # noqa: E402
+
+
+def print_sheet(grid, gates, remapped):
+    counts, means, qualities = map(uldrevin.flat, (remapped.counts, remapped.means, remapped.cell_qualities))
+    print("grid", grid.columns, grid.rows)
+    print("gates", gates, "placed", sum(counts))
+    for cell, count in enumerate(counts):
+        if count != 0:
+            print(cell % grid.columns, cell // grid.columns, means[cell], qualities[cell], count)
+
+
+def print_ledger(gates_in_ray, ledger):
+    print("ledger")
+    for gate, cell in enumerate(ledger):
+        print(gate // gates_in_ray, gate % gates_in_ray, "outside" if cell == uldrevin.OUTSIDE else cell)
+
+
+def main():
+    try:
+        scan = uldrevin.read_record(sys.stdin.buffer.read())
+    except uldrevin.Refusal as refusal:
+        print("refused", refusal.number)
+        return 1
+    remapped = uldrevin.remap(*scan)
+    ledger = uldrevin.flat(remapped.ledger)
+    print_sheet(scan.grid, len(ledger), remapped)
+    print_ledger(len(ledger) // len(scan.azimuths), ledger)
+    return 0
+
+
+if __name__ == "__main__":
+    sys.exit(main())

@@ -1,0 +1,43 @@
+//! Times of a whole scan by the library, of the same gates by single calls, of the plain program, and of numpy with PROJ.
+//!
+//! Every round works the first three one after the other, and the best round of each counts. Nothing is asserted about speed; before
+//! anything is timed, the ledgers and cells have to be the same.
+
+mod measure;
+mod pipeline;
+mod plain;
+mod report;
+mod scene;
+mod stack;
+mod stack_of_calls;
+
+use measure::measure;
+use pipeline::Pipeline;
+use plain_program::sine::Tables;
+use scene::Scene;
+
+/// One tenth of the gates, all, and the most that the rules allow, which is 8.7 times as many.
+const SIZES: [(u32, u32); 3] = [(36, 230), FULL_SIZE, (720, 1_000)];
+const FULL_SIZE: (u32, u32) = (360, 230);
+
+fn main() {
+    let tables = Tables::new();
+    let pipeline = Pipeline::find();
+    if pipeline.is_none() {
+        println!("No Python with numpy and pyproj is here: that column stays empty.");
+        println!();
+    }
+    let kinds: [fn(u32, u32) -> Scene; 2] = [scene::hrap, scene::radolan];
+    let mut measured = Vec::new();
+    for kind in kinds {
+        for (rays, gates) in SIZES {
+            let scene = kind(rays, gates);
+            let times = measure(&tables, &scene, pipeline.as_ref());
+            measured.push((scene, times));
+        }
+    }
+    report::print_times(&measured);
+    report::print_ratios(&measured);
+    report::print_growth(&measured);
+    stack_of_calls::print_stack(&scene::hrap(FULL_SIZE.0, FULL_SIZE.1));
+}

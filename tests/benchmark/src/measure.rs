@@ -1,0 +1,127 @@
+//! One scene by all of them: what they give is compared first, then they are timed.
+
+use std::fmt::Display;
+use std::hint::black_box;
+use std::process::exit;
+use std::time::{Duration, Instant};
+
+use plain_program::sine::Tables;
+use uldrevin::{place, remap_into, OUTSIDE};
+
+use crate::pipeline::{self, Pipeline};
+use crate::plain;
+use crate::scene::{Lists, Scene};
+
+const LEAST_ROUNDS: u32 = 5;
+const MOST_ROUNDS: u32 = 200;
+/// How long one scene is worked, once it has had the least rounds.
+const PATIENCE: Duration = Duration::from_secs(6);
+
+/// Nanoseconds a gate.
+pub struct Times {
+    pub whole: f64,
+    pub single: f64,
+    pub plain: f64,
+    pub pipeline: Option<pipeline::Measured>,
+    pub rounds: u32,
+}
+
+fn whole_scan(scene: &Scene, lists: &mut Lists) -> u32 {
+    match remap_into(scene.head, scene.gate_lists(), lists.lent()) {
+        Ok(()) => 0,
+        Err(refusal) => refusal.number,
+    }
+}
+
+/// The ledger alone, gate by gate.
+fn single_calls(scene: &Scene, ledger: &mut [u32]) -> u32 {
+    let head = &scene.head;
+    let rays = ledger.chunks_exact_mut(head.gates as usize);
+    for (&azimuth, entries) in scene.azimuths.iter().zip(rays) {
+        for (gate, entry) in (0..).zip(entries) {
+            match place(
+                head.site,
+                head.grid,
+                azimuth,
+                head.first + gate * head.spacing,
+            ) {
+                Ok(placement) => *entry = placement.cell.unwrap_or(OUTSIDE),
+                Err(refusal) => return refusal.number,
+            }
+        }
+    }
+    0
+}
+
+fn plain_scan(tables: &Tables, scene: &Scene, lists: &mut Lists) -> u32 {
+    plain::whole_scan(tables, scene, lists).err().unwrap_or(0)
+}
+
+/// Ends the run where two lists differ.
+fn same<T: PartialEq + Display>(name: &str, one: &[T], other: &[T], who: &str) {
+    if let Some(place) = one.iter().zip(other).position(|(a, b)| a != b) {
+        println!(
+            "different: {name} {place} is {} by the whole scan and {} by {who}",
+            one[place], other[place]
+        );
+        exit(1);
+    }
+}
+
+/// Works all three once and compares what they give; answers the lists.
+fn checked(tables: &Tables, scene: &Scene) -> Lists {
+    let (mut whole, mut plain) = (Lists::of(scene), Lists::of(scene));
+    let mut ledger = vec![1; whole.ledger.len()];
+    let answers = [
+        whole_scan(scene, &mut whole),
+        single_calls(scene, &mut ledger),
+        plain_scan(tables, scene, &mut plain),
+    ];
+    if answers != [0; 3] {
+        println!("refused: the answers are {answers:?}");
+        exit(1);
+    }
+    let who = "the plain program";
+    same("ledger", &whole.ledger, &ledger, "single calls");
+    same("ledger", &whole.ledger, &plain.ledger, who);
+    same("count", &whole.counts, &plain.counts, who);
+    same("quality sum", &whole.quality_sums, &plain.quality_sums, who);
+    same("value sum", &whole.value_sums, &plain.value_sums, who);
+    same("mean", &whole.means, &plain.means, who);
+    same("quality", &whole.cell_qualities, &plain.cell_qualities, who);
+    whole
+}
+
+/// Nanoseconds of one call.
+fn timed(work: impl FnOnce() -> u32) -> f64 {
+    let start = Instant::now();
+    black_box(work());
+    start.elapsed().as_nanos() as f64
+}
+
+pub fn measure(tables: &Tables, scene: &Scene, pipeline: Option<&Pipeline>) -> Times {
+    let mut first = checked(tables, scene);
+    let pipeline = pipeline.and_then(|found| found.measure(scene, &first.ledger));
+    let mut second = Lists::of(scene);
+    let (mut best, mut rounds, start) = ([f64::INFINITY; 3], 0, Instant::now());
+    while rounds < LEAST_ROUNDS || (rounds < MOST_ROUNDS && start.elapsed() < PATIENCE) {
+        let scene = black_box(scene);
+        let took = [
+            timed(|| whole_scan(scene, black_box(&mut first))),
+            timed(|| single_calls(scene, black_box(&mut second.ledger))),
+            timed(|| plain_scan(tables, scene, black_box(&mut second))),
+        ];
+        for (least, now) in best.iter_mut().zip(took) {
+            *least = least.min(now);
+        }
+        rounds += 1;
+    }
+    let [whole, single, plain] = best.map(|time| time / scene.values.len() as f64);
+    Times {
+        whole,
+        single,
+        plain,
+        pipeline,
+        rounds,
+    }
+}

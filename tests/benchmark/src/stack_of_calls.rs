@@ -1,0 +1,49 @@
+//! Bytes of stack of each call.
+
+use std::hint::black_box;
+
+use uldrevin::{place, read_record_into, record_head, remap_into, sine, write_record_into};
+
+use crate::scene::{hrap, Lists, Scene};
+use crate::stack::used;
+
+/// A record has at most 32,767 gates, so its scan is a smaller one.
+const RECORD_SIZE: (u32, u32) = (36, 230);
+
+fn print_row(call: &str, bytes: usize) {
+    println!("| {call} | {bytes} |");
+}
+
+fn print_records() {
+    let mut scan = hrap(RECORD_SIZE.0, RECORD_SIZE.1);
+    let (head, mut record) = (scan.head, vec![0; 65_536]);
+    let mut length = 0;
+    let written = used(|| {
+        length = write_record_into(head, scan.gate_lists(), &mut record).expect("a scan that fits");
+    });
+    let record = &record[..length];
+    let read = used(|| {
+        read_record_into(
+            record,
+            &mut scan.azimuths,
+            &mut scan.values,
+            &mut scan.qualities,
+        )
+    });
+    print_row("record_head", used(|| record_head(record)));
+    print_row("read_record_into", read);
+    print_row("write_record_into", written);
+}
+
+pub fn print_stack(scene: &Scene) {
+    let (head, mut lists) = (scene.head, Lists::of(scene));
+    println!("Bytes of stack, the Rust wrapper's among them");
+    println!();
+    println!("| call | bytes |");
+    println!("|---|---|");
+    print_row("sine", used(|| sine(black_box(1))));
+    print_row("place", used(|| place(head.site, head.grid, 5, 5)));
+    let remapped = used(|| remap_into(head, scene.gate_lists(), lists.lent()));
+    print_row("remap_into", remapped);
+    print_records();
+}

@@ -1,0 +1,120 @@
+"""The Python binding in its two forms, without numpy and with it: its doctests, its checks and the storm example.
+
+    python3 tests/compare_python.py
+
+runs these comparisons alone.
+"""
+import re
+import subprocess
+import sys
+import tempfile
+import time
+from pathlib import Path
+from typing import NamedTuple
+
+ROOT = Path(__file__).resolve().parent.parent
+BINDING = ROOT / "bindings" / "python"
+STORM = ROOT / "examples" / "storm.py"
+PATIENCE = 120  # seconds for one process
+CANDIDATES = (sys.executable, "/usr/bin/python3")  # where numpy is looked for
+
+WITHOUT_NUMPY = "import sys; sys.modules['numpy'] = None; "  # an import of it fails
+DOCTESTS = "import doctest, sys; sys.path.insert(0, sys.argv[1]); import uldrevin; print(*doctest.testmod(uldrevin))"
+STORM_RUN = "import runpy, sys; del sys.argv[0]; runpy.run_path(sys.argv[0], run_name='__main__')"
+NO_PICTURE = "matplotlib is not here; install python3-matplotlib to draw the pictures"
+
+
+class Form(NamedTuple):
+    """An interpreter, and what it runs first."""
+
+    words: str
+    interpreter: str
+    before: str
+    arguments: list  # of tests/python_binding.py
+
+
+def run(words):
+    return subprocess.run(words, cwd=ROOT, capture_output=True, text=True, timeout=PATIENCE)
+
+
+def has(interpreter, module):
+    return Path(interpreter).exists() and run([interpreter, "-c", f"import {module}"]).returncode == 0
+
+
+def forms():
+    yield Form("without numpy", sys.executable, WITHOUT_NUMPY, ["plain"])
+    found = [interpreter for interpreter in CANDIDATES if has(interpreter, "numpy")]
+    if not found:
+        print("the numpy half of the Python binding was not run: no numpy is here; `apt-get install python3-numpy` gets it", flush=True)
+        return
+    yield Form("with numpy", found[0], "", [])
+
+
+def doctest_lines(form):
+    """How many examples were tried, and the lines of those that failed."""
+    done = run([form.interpreter, "-c", form.before + DOCTESTS, str(BINDING)])
+    told = done.stdout.splitlines()
+    failed, tried = map(int, told[-1].split()) if done.returncode == 0 else (1, 0)
+    if failed == 0 and tried > 0:
+        return tried, []
+    return tried, [*told, *done.stderr.splitlines()] or ["no example was tried"]
+
+
+def check_lines(form):
+    """The closing line of tests/python_binding.py, and its differences."""
+    done = run([form.interpreter, str(ROOT / "tests" / "python_binding.py"), *form.arguments])
+    told = done.stdout.splitlines()
+    closing = told[-1] if told and re.match(r"[1-9]\d* checks with", told[-1]) else ""
+    if done.returncode == 0 and len(told) == 1 and closing and not done.stderr:
+        return closing, []
+    return closing or "not all checks", [*told, *done.stderr.splitlines(), f"it ended with status {done.returncode}"]
+
+
+# The storm example.
+
+
+def worked_again(text):
+    """The last lines of the cell's ledger, from the gates that it lists."""
+    rows = [list(map(int, row)) for row in re.findall(r"^ *\d+ +\d+ +(\d+) +(\d+) +[-\d]+$", text, re.MULTILINE)]
+    measured = [(0 if value == 65_534 else value, quality) for value, quality in rows if value != 65_535]
+    products, qualities = sum(value * quality for value, quality in measured), sum(quality for _, quality in measured)
+    mean = f"mean    = floor({products} / {qualities}) = {products // max(1, qualities)}"
+    return mean, f"quality = floor({qualities} / {len(measured)}) = {qualities // max(1, len(measured))}"
+
+
+def storm_lines(form):
+    """Its numbers follow from the gates that it lists, and it draws the picture or says that it cannot."""
+    with tempfile.TemporaryDirectory() as folder:
+        picture = Path(folder) / "storm.png"
+        done = run([form.interpreter, "-c", form.before + STORM_RUN, str(STORM), str(picture)])
+        drawn = picture.exists() and picture.read_bytes().startswith(b"\x89PNG")
+    lines = [f"`{line}` is not printed" for line in worked_again(done.stdout) if line not in done.stdout.splitlines()]
+    if done.returncode != 0:
+        lines.append(f"it ended with status {done.returncode} and {done.stderr[-200:]}")
+    if drawn == (NO_PICTURE in done.stdout):
+        lines.append("it drew the picture and says that it cannot" if drawn else "it neither drew the picture nor says that it cannot")
+    return lines
+
+
+def comparisons():
+    for form in forms():
+        tried, lines = doctest_lines(form)
+        yield f"the Python binding {form.words}: {tried} doctest examples", lines
+        closing, lines = check_lines(form)
+        yield f"the Python binding: {closing}", lines
+        yield f"examples/storm.py {form.words}", storm_lines(form)
+
+
+def main():
+    from run import Count
+
+    count, start = Count(), time.monotonic()
+    for title, lines in comparisons():
+        count.note(title, lines, time.monotonic() - start)
+        start = time.monotonic()
+    print(f"{count.passed} passed, {count.failed} failed")
+    return 0 if count.failed == 0 else 1
+
+
+if __name__ == "__main__":
+    sys.exit(main())

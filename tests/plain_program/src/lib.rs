@@ -1,0 +1,13 @@
+//! The rules of document 01 in plain Rust, written from document 01 alone. No code is shared with the library.
+//!
+//! - `sine`: the tables S, F and G, and sine and cosine of any angle
+//! - `placement`: a gate to its position and cell, and the refusals of one gate
+//! - `scan`: a whole scan to its ledger, sums and cells, and the refusals of a scan
+//! - `record`: a scan record read and written, and the refusals of a record
+//!
+//! A refusal is given as its number in document 01, the error of a `Result`.
+
+pub mod placement;
+pub mod record;
+pub mod scan;
+pub mod sine;

@@ -1,0 +1,339 @@
+//! Document 01, "Projection" from "Arc" on: a gate to its position and its cell.
+
+use crate::sine::{by_q, Tables, Q};
+
+pub const FARTHEST: u32 = 46_000_000;
+pub const LAST_AZIMUTH: u32 = 3_599_999;
+
+const HRAP_SIDE: i64 = 476_250;
+const MOST_COLUMNS_OR_ROWS: u32 = 1_500;
+
+#[derive(Clone, Copy, Debug, PartialEq, Eq)]
+pub struct Site {
+    pub latitude: i64,
+    pub longitude: i64,
+}
+
+#[derive(Clone, Copy, Debug, PartialEq, Eq)]
+pub struct RadolanGrid {
+    pub x: i64,
+    pub y: i64,
+    pub side: u32,
+    pub columns: u32,
+    pub rows: u32,
+}
+
+#[derive(Clone, Copy, Debug, PartialEq, Eq)]
+pub struct HrapGrid {
+    pub i: i64,
+    pub j: i64,
+    pub columns: u32,
+    pub rows: u32,
+}
+
+#[derive(Clone, Copy, Debug, PartialEq, Eq)]
+pub enum Grid {
+    Radolan(RadolanGrid),
+    Hrap(HrapGrid),
+}
+
+/// A position, and its cell where it has one.
+#[derive(Clone, Copy, Debug, PartialEq, Eq)]
+pub struct Placement {
+    pub x: i64,
+    pub y: i64,
+    pub cell: Option<u32>,
+}
+
+/// Refusal 4.
+pub(crate) fn check_site(site: Site) -> Result<(), u32> {
+    let good = (200_000..=750_000).contains(&site.latitude)
+        && (-1_800_000..=1_800_000).contains(&site.longitude);
+    good.then_some(()).ok_or(4)
+}
+
+fn size_good(columns: u32, rows: u32) -> bool {
+    let size = 1..=MOST_COLUMNS_OR_ROWS;
+    size.contains(&columns) && size.contains(&rows)
+}
+
+fn radolan_good(grid: RadolanGrid) -> bool {
+    let corner = -2_000_000_000..=2_000_000_000;
+    corner.contains(&grid.x)
+        && corner.contains(&grid.y)
+        && (10_000..=10_000_000).contains(&grid.side)
+        && size_good(grid.columns, grid.rows)
+}
+
+fn hrap_good(grid: HrapGrid) -> bool {
+    let first = -10_000..=10_000;
+    first.contains(&grid.i) && first.contains(&grid.j) && size_good(grid.columns, grid.rows)
+}
+
+/// Refusal 5.
+pub(crate) fn check_grid(grid: Grid) -> Result<(), u32> {
+    let good = match grid {
+        Grid::Radolan(grid) => radolan_good(grid),
+        Grid::Hrap(grid) => hrap_good(grid),
+    };
+    good.then_some(()).ok_or(5)
+}
+
+pub(crate) struct Sphere {
+    radius: i64,
+    meridian: i64,
+    k: i64,
+}
+
+pub(crate) const RADOLAN: Sphere = Sphere {
+    radius: 637_004_000,
+    meridian: 100_000,
+    k: 1_188_665_646,
+};
+
+pub(crate) const HRAP: Sphere = Sphere {
+    radius: 637_120_000,
+    meridian: -1_050_000,
+    k: 1_188_882_105,
+};
+
+/// The cells of a grid, of either kind.
+pub(crate) struct Window {
+    corner_x: i64,
+    corner_y: i64,
+    side: i64,
+    columns: i64,
+    rows: i64,
+}
+
+impl Window {
+    pub(crate) fn of_radolan(grid: RadolanGrid) -> Window {
+        Window {
+            corner_x: grid.x,
+            corner_y: grid.y,
+            side: i64::from(grid.side),
+            columns: i64::from(grid.columns),
+            rows: i64::from(grid.rows),
+        }
+    }
+
+    #[inline(always)] // so that the side is a constant where the cells are worked
+    pub(crate) fn of_hrap(grid: HrapGrid) -> Window {
+        Window {
+            corner_x: (grid.i - 401) * HRAP_SIDE,
+            corner_y: (grid.j - 1_601) * HRAP_SIDE,
+            side: HRAP_SIDE,
+            columns: i64::from(grid.columns),
+            rows: i64::from(grid.rows),
+        }
+    }
+
+    #[inline(always)]
+    pub(crate) fn cell(&self, (x, y): (i64, i64)) -> Option<u32> {
+        let column = (x - self.corner_x).div_euclid(self.side);
+        let row = (y - self.corner_y).div_euclid(self.side);
+        let inside = (0..self.columns).contains(&column) && (0..self.rows).contains(&row);
+        inside.then_some((row * self.columns + column) as u32)
+    }
+}
+
+/// Sine and cosine of one angle.
+#[derive(Clone, Copy)]
+pub(crate) struct Pair {
+    sine: i64,
+    cosine: i64,
+}
+
+pub(crate) fn pair(tables: &Tables, angle: i64) -> Pair {
+    Pair {
+        sine: tables.sine(angle),
+        cosine: tables.cosine(angle),
+    }
+}
+
+/// Sine and cosine of the arc.
+pub(crate) fn arc(sphere: &Sphere, range: u32) -> Pair {
+    let d = (i64::from(range) * Q).div_euclid(sphere.radius);
+    let d2 = by_q(d * d);
+    let d3 = by_q(d2 * d);
+    let d4 = by_q(d2 * d2);
+    let d5 = by_q(d4 * d);
+    Pair {
+        sine: d - d3.div_euclid(6) + d5.div_euclid(120),
+        cosine: Q - d2.div_euclid(2) + d4.div_euclid(24),
+    }
+}
+
+/// What the site and the grid's kind decide of a position.
+pub(crate) struct Survey {
+    latitude: Pair,
+    longitude: Pair, // of longitude less central meridian
+    k: i64,
+}
+
+impl Survey {
+    #[inline(always)] // so that K is a constant where the positions are worked
+    pub(crate) fn new(tables: &Tables, sphere: &Sphere, site: Site) -> Survey {
+        Survey {
+            latitude: pair(tables, site.latitude),
+            longitude: pair(tables, site.longitude - sphere.meridian),
+            k: sphere.k,
+        }
+    }
+
+    /// X and Y.
+    #[inline(always)]
+    pub(crate) fn position(&self, azimuth: Pair, arc: Pair) -> (i64, i64) {
+        let (sp, cp) = (self.latitude.sine, self.latitude.cosine);
+        let (sl, cl) = (self.longitude.sine, self.longitude.cosine);
+        let w = by_q(arc.sine * azimuth.cosine);
+        let e = by_q(arc.sine * azimuth.sine);
+        let n = by_q(sp * arc.cosine + cp * w);
+        let m = by_q(cp * arc.cosine - sp * w);
+        let u = by_q(e * cl + m * sl);
+        let v = by_q(m * cl - e * sl);
+        let x = (self.k * u).div_euclid(Q + n);
+        let y = (-self.k * v).div_euclid(Q + n);
+        (x, y)
+    }
+}
+
+fn place_checked(
+    tables: &Tables,
+    sphere: &Sphere,
+    window: &Window,
+    site: Site,
+    azimuth: u32,
+    range: u32,
+) -> Placement {
+    let survey = Survey::new(tables, sphere, site);
+    let (x, y) = survey.position(pair(tables, i64::from(azimuth)), arc(sphere, range));
+    Placement {
+        x,
+        y,
+        cell: window.cell((x, y)),
+    }
+}
+
+/// The placement of one gate, or the first of the refusals 3, 4, 5 and 7.
+pub fn place(
+    tables: &Tables,
+    site: Site,
+    grid: Grid,
+    azimuth: u32,
+    range: u32,
+) -> Result<Placement, u32> {
+    if range > FARTHEST {
+        return Err(3);
+    }
+    check_site(site)?;
+    check_grid(grid)?;
+    if azimuth > LAST_AZIMUTH {
+        return Err(7);
+    }
+    Ok(match grid {
+        Grid::Radolan(grid) => {
+            let window = Window::of_radolan(grid);
+            place_checked(tables, &RADOLAN, &window, site, azimuth, range)
+        }
+        Grid::Hrap(grid) => {
+            let window = Window::of_hrap(grid);
+            place_checked(tables, &HRAP, &window, site, azimuth, range)
+        }
+    })
+}
+
+#[cfg(test)]
+mod tests {
+    use super::*;
+
+    const WIDE_HRAP: Grid = Grid::Hrap(HrapGrid {
+        i: 0,
+        j: 0,
+        columns: 1_500,
+        rows: 1_500,
+    });
+
+    fn placed(latitude: i64, longitude: i64, grid: Grid) -> Result<Placement, u32> {
+        let site = Site {
+            latitude,
+            longitude,
+        };
+        place(&Tables::new(), site, grid, 0, 0)
+    }
+
+    #[test]
+    fn hrap_on_its_meridian() {
+        let placement = placed(600_000, -1_050_000, WIDE_HRAP).unwrap();
+        assert_eq!(placement.x, 0);
+        assert!((placement.y + 318_560_000).abs() <= 51);
+        assert_eq!(placement.cell, Some(932 * 1_500 + 401));
+    }
+
+    #[test]
+    fn radolan_on_its_meridian() {
+        let grid = Grid::Radolan(RadolanGrid {
+            x: -52_346_220,
+            y: -465_864_470,
+            side: 100_000,
+            columns: 900,
+            rows: 900,
+        });
+        let placement = placed(510_000, 100_000, grid).unwrap();
+        assert_eq!(placement.x, 0);
+        assert_eq!(placement.cell, Some(404_623));
+    }
+
+    #[test]
+    fn edges_belong_east_and_north() {
+        let window = Window {
+            corner_x: 0,
+            corner_y: 0,
+            side: 10_000,
+            columns: 2,
+            rows: 1,
+        };
+        assert_eq!(window.cell((-1, 0)), None);
+        assert_eq!(window.cell((0, 0)), Some(0));
+        assert_eq!(window.cell((9_999, 0)), Some(0));
+        assert_eq!(window.cell((10_000, 0)), Some(1));
+        assert_eq!(window.cell((0, 10_000)), None);
+    }
+
+    #[test]
+    fn latitude_limits() {
+        assert!(placed(200_000, 0, WIDE_HRAP).is_ok());
+        assert!(placed(750_000, 0, WIDE_HRAP).is_ok());
+        assert_eq!(placed(199_999, 0, WIDE_HRAP), Err(4));
+        assert_eq!(placed(750_001, 0, WIDE_HRAP), Err(4));
+    }
+
+    #[test]
+    fn one_gate_is_checked_by_3_4_5_7() {
+        let (tables, good) = (
+            Tables::new(),
+            Site {
+                latitude: 510_000,
+                longitude: 100_000,
+            },
+        );
+        let bad = Site {
+            latitude: 0,
+            longitude: 0,
+        };
+        let none = Grid::Hrap(HrapGrid {
+            i: 0,
+            j: 0,
+            columns: 0,
+            rows: 1,
+        });
+        assert_eq!(place(&tables, bad, none, 3_600_000, 46_000_001), Err(3));
+        assert_eq!(place(&tables, bad, none, 3_600_000, 46_000_000), Err(4));
+        assert_eq!(place(&tables, good, none, 3_600_000, 46_000_000), Err(5));
+        assert_eq!(
+            place(&tables, good, WIDE_HRAP, 3_600_000, 46_000_000),
+            Err(7)
+        );
+        assert!(place(&tables, good, WIDE_HRAP, 3_599_999, 46_000_000).is_ok());
+    }
+}

@@ -1,0 +1,328 @@
+//! Document 01, "The scan" and "Ledger and cells": a whole scan to its ledger, sums and published cells.
+//!
+//! What the site decides is worked once a scan, what the azimuth decides once a ray, and what the range decides once a gate number.
+
+use crate::placement::{
+    arc, check_grid, check_site, pair, Grid, Site, Sphere, Survey, Window, FARTHEST, HRAP,
+    LAST_AZIMUTH, RADOLAN,
+};
+use crate::sine::Tables;
+
+pub const MOST_RAYS: u32 = 720;
+pub const MOST_GATES: u32 = 1_000;
+pub const MOST_SPACING: u32 = 1_000_000;
+pub const MOST_QUALITY: u8 = 100;
+
+pub const OUTSIDE: u32 = 4_294_967_295;
+pub const NO_ECHO: u16 = 65_534;
+pub const NOT_MEASURED: u16 = 65_535;
+pub const NO_MEAN: u16 = 65_535;
+
+#[derive(Clone, Copy, Debug, PartialEq, Eq)]
+pub enum Weighting {
+    Plain,
+    ByQuality,
+}
+
+/// A scan's numbers, without its lists.
+#[derive(Clone, Copy, Debug, PartialEq, Eq)]
+pub struct Head {
+    pub site: Site,
+    pub rays: u32,
+    pub gates: u32,
+    pub first: u32,
+    pub spacing: u32,
+    pub grid: Grid,
+    pub weighting: Weighting,
+}
+
+/// A scan's lists.
+#[derive(Clone, Copy, Debug)]
+pub struct Given<'a> {
+    pub azimuths: &'a [u32],
+    pub values: &'a [u16],
+    pub qualities: &'a [u8],
+}
+
+/// The lists that a scan is remapped into.
+#[derive(Debug)]
+pub struct Lent<'a> {
+    pub ledger: &'a mut [u32],
+    pub counts: &'a mut [u32],
+    pub quality_sums: &'a mut [u32],
+    pub value_sums: &'a mut [u64],
+    pub means: &'a mut [u16],
+    pub cell_qualities: &'a mut [u8],
+}
+
+/// Refusal 3, of a head whose number of gates is good.
+fn check_centres(head: &Head) -> Result<(), u32> {
+    let farthest = u64::from(FARTHEST);
+    let (first, spacing) = (u64::from(head.first), u64::from(head.spacing));
+    let last = first + u64::from(head.gates - 1) * spacing;
+    let good = first <= farthest && (1..=MOST_SPACING).contains(&head.spacing) && last <= farthest;
+    good.then_some(()).ok_or(3)
+}
+
+/// Refusals 1 to 5.
+pub(crate) fn check_head(head: &Head) -> Result<(), u32> {
+    if !(1..=MOST_RAYS).contains(&head.rays) {
+        return Err(1);
+    }
+    if !(1..=MOST_GATES).contains(&head.gates) {
+        return Err(2);
+    }
+    check_centres(head)?;
+    check_site(head.site)?;
+    check_grid(head.grid)
+}
+
+/// Rays, and rays x gates, of a head that passed 1 and 2.
+fn gate_lengths(head: &Head) -> (usize, usize) {
+    (head.rays as usize, (head.rays * head.gates) as usize)
+}
+
+/// Columns x rows of a grid that passed 5.
+fn cell_length(grid: Grid) -> usize {
+    let (columns, rows) = match grid {
+        Grid::Radolan(grid) => (grid.columns, grid.rows),
+        Grid::Hrap(grid) => (grid.columns, grid.rows),
+    };
+    (columns * rows) as usize
+}
+
+/// Refusal 6 for azimuths, values and qualities.
+pub(crate) fn check_gate_lengths(
+    head: &Head,
+    azimuths: usize,
+    values: usize,
+    qualities: usize,
+) -> Result<(), u32> {
+    let (rays, gates) = gate_lengths(head);
+    let exact = azimuths == rays && values == gates && qualities == gates;
+    exact.then_some(()).ok_or(6)
+}
+
+/// Refusal 6 for the ledger and the cell lists.
+fn check_lent_lengths(head: &Head, lent: &Lent) -> Result<(), u32> {
+    let (_, gates) = gate_lengths(head);
+    let cells = cell_length(head.grid);
+    let exact = lent.ledger.len() == gates
+        && lent.counts.len() == cells
+        && lent.quality_sums.len() == cells
+        && lent.value_sums.len() == cells
+        && lent.means.len() == cells
+        && lent.cell_qualities.len() == cells;
+    exact.then_some(()).ok_or(6)
+}
+
+/// Refusals 7 and 8.
+pub(crate) fn check_contents(
+    mut azimuths: impl Iterator<Item = u32>,
+    qualities: &[u8],
+) -> Result<(), u32> {
+    if azimuths.any(|azimuth| azimuth > LAST_AZIMUTH) {
+        return Err(7);
+    }
+    if qualities.iter().any(|&quality| quality > MOST_QUALITY) {
+        return Err(8);
+    }
+    Ok(())
+}
+
+fn check(head: &Head, given: Given, lent: &Lent) -> Result<(), u32> {
+    check_head(head)?;
+    check_gate_lengths(
+        head,
+        given.azimuths.len(),
+        given.values.len(),
+        given.qualities.len(),
+    )?;
+    check_lent_lengths(head, lent)?;
+    check_contents(given.azimuths.iter().copied(), given.qualities)
+}
+
+#[inline(always)] // once for each kind of grid, with the kind's own constants
+fn fill_ledger(
+    tables: &Tables,
+    head: &Head,
+    sphere: &Sphere,
+    window: &Window,
+    azimuths: &[u32],
+    ledger: &mut [u32],
+) {
+    let survey = Survey::new(tables, sphere, head.site);
+    let arcs: Vec<_> = (0..head.gates)
+        .map(|gate| arc(sphere, head.first + gate * head.spacing))
+        .collect();
+    for (&azimuth, entries) in azimuths.iter().zip(ledger.chunks_exact_mut(arcs.len())) {
+        let ray = pair(tables, i64::from(azimuth));
+        for (&arc, entry) in arcs.iter().zip(entries) {
+            *entry = window.cell(survey.position(ray, arc)).unwrap_or(OUTSIDE);
+        }
+    }
+}
+
+fn tally(weighting: Weighting, given: Given, lent: &mut Lent) {
+    lent.counts.fill(0);
+    lent.quality_sums.fill(0);
+    lent.value_sums.fill(0);
+    for ((&entry, &value), &quality) in lent.ledger.iter().zip(given.values).zip(given.qualities) {
+        if entry == OUTSIDE || value == NOT_MEASURED {
+            continue;
+        }
+        let cell = entry as usize;
+        let counted = if value == NO_ECHO { 0 } else { value };
+        lent.counts[cell] += 1;
+        lent.quality_sums[cell] += u32::from(quality);
+        lent.value_sums[cell] += match weighting {
+            Weighting::Plain => u64::from(counted),
+            Weighting::ByQuality => u64::from(counted) * u64::from(quality),
+        };
+    }
+}
+
+fn publish(weighting: Weighting, lent: &mut Lent) {
+    for cell in 0..lent.counts.len() {
+        let (count, quality_sum) = (lent.counts[cell], lent.quality_sums[cell]);
+        let divisor = u64::from(match weighting {
+            Weighting::Plain => count,
+            Weighting::ByQuality => quality_sum,
+        });
+        lent.means[cell] = match divisor {
+            0 => NO_MEAN,
+            _ => (lent.value_sums[cell] / divisor) as u16,
+        };
+        lent.cell_qualities[cell] = match count {
+            0 => 0,
+            _ => (quality_sum / count) as u8,
+        };
+    }
+}
+
+/// Remaps the scan into the lent lists, or answers the lowest refusal of 1 to 8 and leaves the lists alone.
+pub fn remap(tables: &Tables, head: &Head, given: Given, lent: &mut Lent) -> Result<(), u32> {
+    check(head, given, lent)?;
+    let azimuths = given.azimuths;
+    match head.grid {
+        Grid::Radolan(grid) => {
+            let window = Window::of_radolan(grid);
+            fill_ledger(tables, head, &RADOLAN, &window, azimuths, lent.ledger);
+        }
+        Grid::Hrap(grid) => {
+            let window = Window::of_hrap(grid);
+            fill_ledger(tables, head, &HRAP, &window, azimuths, lent.ledger);
+        }
+    }
+    tally(head.weighting, given, lent);
+    publish(head.weighting, lent);
+    Ok(())
+}
+
+#[cfg(test)]
+mod tests {
+    use super::*;
+    use crate::placement::HrapGrid;
+
+    /// The scan of document 01's sheet example.
+    const EXAMPLE: Head = Head {
+        site: Site {
+            latitude: 600_000,
+            longitude: -1_050_000,
+        },
+        rays: 1,
+        gates: 2,
+        first: 0,
+        spacing: 100_000,
+        grid: Grid::Hrap(HrapGrid {
+            i: 400,
+            j: 932,
+            columns: 2,
+            rows: 1,
+        }),
+        weighting: Weighting::ByQuality,
+    };
+
+    const PLAIN: Head = Head {
+        weighting: Weighting::Plain,
+        ..EXAMPLE
+    };
+
+    /// Answer, mean, cell quality and count of the cell that has both gates.
+    fn cell_of(
+        head: &Head,
+        azimuths: &[u32],
+        values: [u16; 2],
+        qualities: [u8; 2],
+    ) -> (Result<(), u32>, u16, u8, u32) {
+        let (mut ledger, mut counts, mut quality_sums) = ([9; 2], [9; 2], [9; 2]);
+        let (mut value_sums, mut means, mut cell_qualities) = ([9; 2], [9; 2], [9; 2]);
+        let given = Given {
+            azimuths,
+            values: &values,
+            qualities: &qualities,
+        };
+        let mut lent = Lent {
+            ledger: &mut ledger,
+            counts: &mut counts,
+            quality_sums: &mut quality_sums,
+            value_sums: &mut value_sums,
+            means: &mut means,
+            cell_qualities: &mut cell_qualities,
+        };
+        let answer = remap(&Tables::new(), head, given, &mut lent);
+        (answer, means[1], cell_qualities[1], counts[1])
+    }
+
+    #[test]
+    fn means_and_qualities() {
+        let ok = Ok(());
+        assert_eq!(cell_of(&EXAMPLE, &[0], [1, 7], [90, 10]), (ok, 1, 50, 2));
+        assert_eq!(cell_of(&EXAMPLE, &[0], [1, 7], [0, 0]), (ok, NO_MEAN, 0, 2));
+        assert_eq!(cell_of(&PLAIN, &[0], [1, 7], [90, 10]), (ok, 4, 50, 2));
+        assert_eq!(cell_of(&PLAIN, &[0], [NO_ECHO, 7], [1, 2]), (ok, 3, 1, 2));
+        assert_eq!(
+            cell_of(&PLAIN, &[0], [NOT_MEASURED, 7], [1, 2]),
+            (ok, 7, 2, 1)
+        );
+    }
+
+    fn answer(head: Head) -> Result<(), u32> {
+        cell_of(&head, &[0], [1, 7], [90, 10]).0
+    }
+
+    #[test]
+    fn last_centre() {
+        let ends_at = |last: u32| Head {
+            first: last - 100_000,
+            ..EXAMPLE
+        };
+        assert_eq!(answer(ends_at(46_000_000)), Ok(()));
+        assert_eq!(answer(ends_at(46_000_001)), Err(3));
+    }
+
+    #[test]
+    fn the_lowest_number_is_given() {
+        let site = Site {
+            latitude: 0,
+            longitude: 0,
+        };
+        assert_eq!(answer(Head { site, ..EXAMPLE }), Err(4));
+        let none = Head {
+            site,
+            rays: 0,
+            ..EXAMPLE
+        };
+        assert_eq!(answer(none), Err(1));
+    }
+
+    #[test]
+    fn refused_contents_leave_the_lists() {
+        let (values, left) = ([NOT_MEASURED, 7], (9, 9, 9));
+        let refused = |number| (Err(number), left.0, left.1, left.2);
+        let over = cell_of(&PLAIN, &[3_599_999], values, [101, 2]);
+        assert_eq!(over, refused(8));
+        assert_eq!(cell_of(&PLAIN, &[3_600_000], values, [101, 2]), refused(7));
+        assert_eq!(cell_of(&PLAIN, &[0, 0], values, [101, 2]), refused(6));
+    }
+}

@@ -1,0 +1,383 @@
+"""The Python binding by itself: its answers, its refusals and what it does not take.
+
+    python3 tests/python_binding.py [plain]
+
+With `plain` numpy counts as missing. It prints each difference, then how many checks were made, and ends with status 1 where one differs.
+"""
+import os
+import pickle
+import subprocess
+import sys
+from array import array
+from pathlib import Path
+
+if sys.argv[1:] == ["plain"]:
+    sys.modules["numpy"] = None  # an import of it fails
+
+ROOT = Path(__file__).resolve().parent.parent
+BINDING = ROOT / "bindings" / "python"
+sys.path.insert(0, str(BINDING))
+
+import uldrevin  # noqa: E402
+from uldrevin import BY_QUALITY, NO_ECHO, NO_MEAN, NOT_MEASURED, OUTSIDE, PLAIN, Hrap, Placement, Radolan, Site, flat  # noqa: E402
+
+try:
+    import numpy
+except ImportError:
+    numpy = None
+
+RECORDS = [(name, (ROOT / "examples" / name).read_bytes()) for name in ("hrap.scan", "radolan.scan")]
+
+# Document 01's example for the sheet program; both gates lie in the second cell.
+EXAMPLE = uldrevin.Scan(Site(600_000, -1_050_000), Hrap(400, 932, 2, 1), BY_QUALITY, 0, 100_000, [0], [1, 7], [90, 10])
+RASTER = Radolan(-52_346_220, -465_864_470, 100_000, 900, 900)
+
+
+class Checks:
+    made = 0
+    differences = 0
+
+    def note(self, good, line):
+        self.made += 1
+        if not good:
+            self.differences += 1
+            print(line)
+
+    def equal(self, what, got, expected):
+        self.note(got == expected, f"{what}: {got!r} came back, expected {expected!r}")
+
+    def refused(self, number, what, call):
+        """The call raises the refusal with this number, its sentence and the text of both."""
+        try:
+            got = call()
+        except uldrevin.Refusal as refusal:
+            sentence = uldrevin.SENTENCES[number]
+            expected = (number, sentence, f"refusal {number}: {sentence}")
+            self.equal(what, (refusal.number, refusal.sentence, str(refusal)), expected)
+        else:
+            self.note(False, f"{what}: {got!r} came back, expected refusal {number}")
+
+    def raised(self, kind, words, what, call):
+        """The call raises exactly this kind of error, and its text has these words."""
+        try:
+            got = call()
+        except (ValueError, TypeError, OverflowError) as error:
+            expected = f"expected {kind.__name__} with {words!r}"
+            self.note(type(error) is kind and words in str(error), f"{what}: {error!r} was raised, {expected}")
+        else:
+            self.note(False, f"{what}: {got!r} came back, expected {kind.__name__}")
+
+
+def plain_lists(remapped):
+    return [flat(numbers) for numbers in remapped]
+
+
+# Single gates and angles.
+
+
+def gates(checks):
+    radar, grid = Site(353_300, -972_800), Hrap(573, 320, 6, 5)
+    # Both lines stand in README.md.
+    inside, outside = Placement(82_026_264, -609_049_159, 12), Placement(81_909_098, -609_064_994, None)
+    checks.equal("a gate inside", uldrevin.place(radar, grid, 2_700_000, 450_000), inside)
+    checks.equal("a gate outside", uldrevin.place(radar, grid, 2_700_000, 550_000), outside)
+    checks.equal("a site as a plain pair", uldrevin.place((353_300, -972_800), grid, 2_700_000, 550_000), outside)
+    checks.equal("a RADOLAN cell", uldrevin.place(Site(510_000, 100_000), RASTER, 0, 0).cell, 404_623)
+    checks.refused(3, "range over its limit", lambda: uldrevin.place(radar, grid, 0, 46_000_001))
+    checks.refused(4, "latitude below its limit", lambda: uldrevin.place(Site(199_999, 0), grid, 0, 0))
+    checks.refused(5, "no columns", lambda: uldrevin.place(radar, grid._replace(columns=0), 0, 0))
+    checks.refused(7, "azimuth over its limit", lambda: uldrevin.place(radar, grid, 3_600_000, 0))
+    checks.raised(TypeError, "Radolan or an Hrap", "a plain list as grid", lambda: uldrevin.place(radar, [573, 320, 6, 5], 0, 0))
+
+
+def angles(checks):
+    checks.equal("the sine of a right angle", uldrevin.sine(900_000), 2**30)
+    checks.equal("the sine of minus a right angle", uldrevin.sine(-900_000), -(2**30))
+    checks.equal("the cosine of half a turn", uldrevin.cosine(1_800_000), -(2**30))
+    checks.raised(ValueError, "angle is 9223372036854775808", "an angle of 64 bits", lambda: uldrevin.sine(2**63))
+    checks.raised(TypeError, "angle has to be a whole number", "an angle of a half", lambda: uldrevin.cosine(0.5))
+
+
+# Whole scans.
+
+
+def ledger_by_places(scan, gates_in_ray):
+    """Each gate placed by itself."""
+    ledger = []
+    for azimuth in flat(scan.azimuths):
+        for gate in range(gates_in_ray):
+            cell = uldrevin.place(scan.site, scan.grid, azimuth, scan.first + gate * scan.spacing).cell
+            ledger.append(OUTSIDE if cell is None else cell)
+    return ledger
+
+
+def tally(scan, ledger):
+    """Counts, quality sums and value sums by the ledger."""
+    cells = scan.grid.columns * scan.grid.rows
+    counts, quality_sums, value_sums = [0] * cells, [0] * cells, [0] * cells
+    for cell, value, quality in zip(ledger, flat(scan.values), flat(scan.qualities)):
+        if cell == OUTSIDE or value == NOT_MEASURED:
+            continue
+        counts[cell] += 1
+        quality_sums[cell] += quality
+        value_sums[cell] += (0 if value == NO_ECHO else value) * (quality if scan.weighting == BY_QUALITY else 1)
+    return counts, quality_sums, value_sums
+
+
+def expected_lists(scan, gates_in_ray):
+    ledger = ledger_by_places(scan, gates_in_ray)
+    counts, quality_sums, value_sums = tally(scan, ledger)
+    divisors = quality_sums if scan.weighting == BY_QUALITY else counts
+    means = [value_sum // divisor if divisor else NO_MEAN for value_sum, divisor in zip(value_sums, divisors)]
+    qualities = [quality_sum // count if count else 0 for quality_sum, count in zip(quality_sums, counts)]
+    return [ledger, counts, quality_sums, value_sums, means, qualities]
+
+
+def scans(checks):
+    for name, data in RECORDS:
+        head, scan = uldrevin.record_head(data), uldrevin.read_record(data)
+        for weighting in (PLAIN, BY_QUALITY):
+            asked = scan._replace(weighting=weighting)
+            expected = expected_lists(asked, head.gates)
+            for part, got, wanted in zip(uldrevin.Remapped._fields, plain_lists(uldrevin.remap(*asked)), expected):
+                checks.equal(f"{part} of {name}, weighting {weighting}", got, wanted)
+
+
+def rows_of(numbers, width):
+    return [numbers[start : start + width] for start in range(0, len(numbers), width)]
+
+
+def forms_of_lists(checks):
+    """The same scan from lists of every form gives the same numbers and the same record."""
+    data = RECORDS[0][1]
+    scan, width = uldrevin.read_record(data), uldrevin.record_head(data).gates
+    expected = plain_lists(uldrevin.remap(*scan))
+    plain = [flat(numbers) for numbers in scan[5:]]
+    azimuths, values, qualities = plain
+    forms = {
+        "flat lists": plain,
+        "arrays": [array(letter, numbers) for letter, numbers in zip("IHB", plain)],
+        "arrays of other types": [array("q", numbers) for numbers in plain],
+        "lists of rays": [azimuths, rows_of(values, width), rows_of(qualities, width)],
+        "values by ray, qualities flat": [azimuths, rows_of(values, width), qualities],
+        "qualities as bytes": [azimuths, values, bytes(qualities)],
+    }
+    if numpy is not None:
+        forms |= numpy_forms(*scan[5:])
+    for name, lists in forms.items():
+        asked = uldrevin.Scan(*scan[:5], *lists)
+        checks.equal(f"a scan from {name}", plain_lists(uldrevin.remap(*asked)), expected)
+        checks.equal(f"a record from {name}", uldrevin.write_record(*asked), data)
+    small = EXAMPLE._replace(azimuths=iter([0]), values=bytes([1, 7]), qualities=range(90, 9, -80))
+    checks.equal("a scan from an iterator, bytes and a range", flat(uldrevin.remap(*small).value_sums), [0, 1 * 90 + 7 * 10])
+    checks.equal("the given lists afterwards", [flat(numbers) for numbers in scan[5:]], plain)
+
+
+def numpy_forms(azimuths, values, qualities):
+    read_only = [numbers.copy() for numbers in (azimuths, values, qualities)]
+    for numbers in read_only:
+        numbers.flags.writeable = False
+    odd_place = numpy.frombuffer(b"\0" + values.tobytes(), numpy.uint16, offset=1).reshape(values.shape)
+    return {
+        "numpy arrays": [azimuths, values, qualities],
+        "numpy arrays that are only to be read": read_only,
+        "numpy arrays by column": [azimuths, numpy.asfortranarray(values), numpy.asfortranarray(qualities)],
+        "parts of numpy arrays": [numpy.repeat(azimuths, 2)[::2], numpy.repeat(values, 3, 1)[:, ::3], qualities[::-1][::-1]],
+        "a numpy array at an odd address": [azimuths, odd_place, qualities],
+        "a numpy array and lists": [flat(azimuths), values, flat(qualities)],
+        "lists of numpy numbers": [list(azimuths), list(values), list(qualities)],
+    }
+
+
+def kinds_of_lists(checks):
+    """What comes back is typed, and with numpy shaped."""
+    scan = uldrevin.read_record(RECORDS[0][1])
+    lists = [*scan[5:], *uldrevin.remap(*scan)]
+    letters = "IHBIIIQHB"
+    if numpy is None:
+        checks.equal("the types of arrays", [numbers.typecode for numbers in lists], list(letters))
+        return
+    checks.equal("the dtypes", [numbers.dtype for numbers in lists], [numpy.dtype(letter) for letter in letters])
+    by_gate, by_cell = (12, 20), (5, 6)
+    shapes = [(12,), by_gate, by_gate, by_gate, *[by_cell] * 5]
+    checks.equal("the shapes", [numbers.shape for numbers in lists], shapes)
+
+
+# Refusals.
+
+
+def scan_refusals(checks):
+    changes = {
+        1: {"azimuths": [], "values": [], "qualities": [], "spacing": 0},
+        2: {"values": [], "qualities": [], "spacing": 0},
+        3: {"spacing": 0, "site": Site(0, 0)},
+        4: {"site": Site(199_999, 0), "grid": Hrap(400, 932, 0, 1)},
+        5: {"grid": Hrap(400, 932, 2, 2**32 - 1), "azimuths": [3_600_000]},
+        6: {"qualities": [101], "azimuths": [3_600_000]},
+        7: {"azimuths": [3_600_000], "qualities": [101, 101]},
+        8: {"values": [NOT_MEASURED, 7], "qualities": [101, 10]},
+    }
+    for number, change in changes.items():
+        scan = EXAMPLE._replace(**change)
+        checks.refused(number, f"remap with {change}", lambda: uldrevin.remap(*scan))
+        checks.refused(number, f"write_record with {change}", lambda: uldrevin.write_record(*scan))
+    no_gates = EXAMPLE._replace(values=[[]], qualities=[[]])
+    checks.refused(2, "a ray of no gates", lambda: uldrevin.remap(*no_gates))
+    many_rays = EXAMPLE._replace(azimuths=[0] * 721, values=[1] * 721, qualities=[1] * 721)
+    checks.refused(1, "721 rays", lambda: uldrevin.remap(*many_rays))
+    too_many = EXAMPLE._replace(azimuths=[0] * 512, values=[1] * 32_768, qualities=[1] * 32_768, spacing=1)
+    checks.equal("gates of a scan too large for a record", len(flat(uldrevin.remap(*too_many).ledger)), 32_768)
+    checks.refused(15, "32,768 gates", lambda: uldrevin.write_record(*too_many))
+
+
+def record_refusals(checks):
+    data = uldrevin.write_record(*EXAMPLE)
+    damaged = {
+        4: data[:3] + bytes(4) + data[7:],
+        8: data[:-1] + b"\x65",
+        11: data[:-1],
+        12: b"\2" + data[1:],
+        13: data[:41] + b"\2" + data[42:],
+        14: data + b"\0",
+    }
+    for number, wrong in damaged.items():
+        checks.refused(number, "record_head", lambda: uldrevin.record_head(wrong))
+        checks.refused(number, "read_record", lambda: uldrevin.read_record(wrong))
+        checks.refused(number, "record_field", lambda: uldrevin.record_field(wrong, 1))
+        checks.refused(number, "record_field of no field", lambda: uldrevin.record_field(wrong, 8))
+    checks.refused(11, "no bytes", lambda: uldrevin.read_record(b""))
+
+
+def refusal_itself(checks):
+    """16 cannot be met, since the binding makes the buffer itself."""
+    refusal = uldrevin.Refusal(16)
+    checks.equal("the text of refusal 16", str(refusal), f"refusal 16: {uldrevin.SENTENCES[16]}")
+    checks.equal("the numbers with a sentence", list(uldrevin.SENTENCES), [*range(1, 9), *range(11, 17)])
+    checks.equal("a refusal sent to another process", str(pickle.loads(pickle.dumps(refusal))), str(refusal))
+
+
+# Records.
+
+
+def records(checks):
+    for name, data in [*RECORDS, ("example", uldrevin.write_record(*EXAMPLE))]:
+        scan = uldrevin.read_record(data)
+        checks.equal(f"{name} read and written", uldrevin.write_record(*scan), data)
+        head = uldrevin.record_head(data)
+        checks.equal(f"the site and grid of {name}", (head.site, head.grid), (scan.site, scan.grid))
+        numbers = (len(scan.azimuths), len(flat(scan.values)) // len(scan.azimuths), scan.first, scan.spacing, scan.weighting)
+        checks.equal(f"the numbers of {name}", (head.rays, head.gates, head.first, head.spacing, head.weighting), numbers)
+    scan = uldrevin.read_record(uldrevin.write_record(*EXAMPLE))
+    checks.equal("the example written and read", (*scan[:5], *map(flat, scan[5:])), tuple(EXAMPLE))
+
+
+def fields(checks):
+    for name, data in RECORDS:
+        parts = [uldrevin.record_field(data, number) for number in range(1, 8)]
+        joined = b"".join(bytes([tag]) + len(part).to_bytes(2, "big") + part for tag, part in enumerate(parts, 1))
+        checks.equal(f"the fields of {name}, joined", joined, data)
+        for number in (0, 8, 256 + 1, 2**32 + 1, -1, 2**70):
+            checks.equal(f"field {number} of {name}", bytes(uldrevin.record_field(data, number)), b"")
+    data = RECORDS[0][1]
+    own = bytearray(data)
+    part = uldrevin.record_field(own, 7)
+    own[-1] = 33
+    checks.equal("the last quality, after the caller has changed it", part[-1], 33)
+    part[-1] = 34
+    checks.equal("the caller's record, after the part has been changed", own[-1], 34)
+    checks.equal("a field of a part of some bytes", uldrevin.record_field(memoryview(b"--" + data)[2:], 1), data[3:11])
+    checks.raised(TypeError, "", "a text as record", lambda: uldrevin.read_record("record"))
+    checks.raised(TypeError, "", "a number as record", lambda: uldrevin.read_record(61))
+
+
+# What the library is not asked.
+
+
+def numbers_not_held(checks):
+    wrong = {
+        "latitude is 1180591620717411303424": {"site": Site(2**70, 0)},
+        "longitude is -9223372036854775809": {"site": Site(600_000, -(2**63) - 1)},
+        "columns is -1": {"grid": Hrap(400, 932, -1, 1)},
+        "rows is 4294967297": {"grid": Hrap(400, 932, 2, 2**32 + 1)},
+        "i is 9223372036854775808": {"grid": Hrap(2**63, 932, 2, 1)},
+        "side is -1": {"grid": RASTER._replace(side=-1)},
+        "first is -1": {"first": -1},
+        "spacing is 4295067296": {"spacing": 2**32 + 100_000},
+        "weighting is 4294967296": {"weighting": 2**32},
+        "azimuths holds -1 at place 0": {"azimuths": [-1]},
+        "values holds 65536 at place 1": {"values": [1, 65_536]},
+        "qualities holds 256 at place 0": {"qualities": array("q", [256, 10])},
+    }
+    for words, change in wrong.items():
+        scan = EXAMPLE._replace(**change)
+        checks.raised(ValueError, words, f"remap with {change}", lambda: uldrevin.remap(*scan))
+        checks.raised(ValueError, words, f"write_record with {change}", lambda: uldrevin.write_record(*scan))
+    site, grid = EXAMPLE.site, EXAMPLE.grid
+    checks.raised(ValueError, "azimuth is -1", "azimuth -1", lambda: uldrevin.place(site, grid, -1, 0))
+    checks.raised(ValueError, "range is 4294967296", "range 2^32", lambda: uldrevin.place(site, grid, 0, 2**32))
+
+
+def lists_not_taken(checks):
+    wrong = {
+        "values must hold whole numbers": (TypeError, {"values": [1.0, 7.0]}),
+        "spacing has to be a whole number": (TypeError, {"spacing": 1e5}),
+        "each ray of values must have as many gates": (ValueError, {"values": [[1], [7, 8]]}),
+        "values have the shape (2, 1) and qualities (1, 2)": (ValueError, {"values": [[1], [7]], "qualities": [[90, 10]]}),
+    }
+    for words, (kind, change) in wrong.items():
+        scan = EXAMPLE._replace(**change)
+        checks.raised(kind, words, f"remap with {change}", lambda: uldrevin.remap(*scan))
+
+
+def arrays_not_taken(checks):
+    wrong = [
+        (TypeError, "azimuths must have the dtype uint32", {"azimuths": numpy.array([0])}),
+        (TypeError, "values must have the dtype uint16", {"values": numpy.array([[1, 7]])}),
+        (TypeError, "values must have the dtype uint16", {"values": numpy.array([[1, 7]], ">u2")}),
+        (TypeError, "qualities must have the dtype uint8", {"qualities": numpy.array([[90, 10]], float)}),
+        (TypeError, "values must not be a masked array", {"values": numpy.ma.array([[1, 7]], dtype="uint16")}),
+        (ValueError, "azimuths must have a shape (rays,)", {"azimuths": numpy.array([[0]], "uint32")}),
+        (ValueError, "values must have a shape (rays, gates)", {"values": numpy.array([1, 7], "uint16")}),
+        (ValueError, "qualities must have a shape (rays, gates)", {"qualities": numpy.array([[[90, 10]]], "uint8")}),
+        (ValueError, "rays is 4294967296", {"values": numpy.zeros((2**32, 0), "uint16")}),
+    ]
+    turned = {"values": numpy.array([[1, 7]], "uint16"), "qualities": numpy.array([[90], [10]], "uint8")}
+    for kind, words, change in [*wrong, (ValueError, "values have the shape (1, 2) and qualities (2, 1)", turned)]:
+        scan = EXAMPLE._replace(**change)
+        checks.raised(kind, words, f"remap with {change}", lambda: uldrevin.remap(*scan))
+    two_rays = EXAMPLE._replace(values=numpy.ones((2, 2), "uint16"), qualities=numpy.ones((2, 2), "uint8"))
+    checks.refused(6, "two rays with one azimuth", lambda: uldrevin.remap(*two_rays))
+
+
+# Where the library is.
+
+
+def imported(library):
+    """What an interpreter says that imports the binding with this file as library and prints a sine."""
+    program = f"import sys; sys.path.insert(0, {str(BINDING)!r}); import uldrevin; print(uldrevin.sine(300_000))"
+    environment = {**os.environ, "ULDREVIN_LIBRARY": str(library)}
+    return subprocess.run([sys.executable, "-c", program], env=environment, capture_output=True, text=True, timeout=60)
+
+
+def libraries(checks):
+    checks.equal("a library that is named", imported(ROOT / "target" / "libuldrevin.so").stdout, "536870912\n")
+    for name in (ROOT / "target" / "no-such-file.so", Path(__file__)):
+        told = imported(name).stderr.splitlines()[-1:]
+        found = bool(told) and told[0].startswith("ImportError: ") and "make library" in told[0]
+        checks.note(found, f"with {name.name} as library: {told}, expected an ImportError that names `make library`")
+
+
+def main():
+    checks = Checks()
+    for part in (gates, angles, scans, forms_of_lists, kinds_of_lists, scan_refusals, record_refusals, refusal_itself):
+        part(checks)
+    for part in (records, fields, numbers_not_held, lists_not_taken, libraries):
+        part(checks)
+    if numpy is not None:
+        arrays_not_taken(checks)
+    print(f"{checks.made} checks {'without numpy' if numpy is None else f'with numpy {numpy.__version__}'}")
+    return 1 if checks.differences else 0
+
+
+if __name__ == "__main__":
+    sys.exit(main())
