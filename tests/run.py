@@ -80,13 +80,18 @@ def main():
     status, lines = run(["make", "--no-print-directory", "library"])
     count.note("the library is built from the proved archive", [] if status == 0 else lines[-SHOWN:])
     if status == 0:
+        import compare_at_scale
+        import compare_bindings
         import compare_placement
+        import compare_python
         import compare_record
         import compare_scan
         import compare_sine
         import compare_tables
 
-        for module in (compare_tables, compare_sine, compare_placement, compare_scan, compare_record):
+        by_the_second_program = (compare_tables, compare_sine, compare_placement, compare_scan, compare_record)
+        from_other_languages = (compare_bindings, compare_python, compare_at_scale)
+        for module in (*by_the_second_program, *from_other_languages):
             compared(count, module)
     import compare_programs
 

@@ -9,9 +9,8 @@ ghost use Rattle.remap.specs.Scan.{gatesOf};
 ghost use Rattle.scan_record.specs.RecordPlaces.{headIn};
 ghost use Rattle.scan_record.specs.RecordRefusal.{headRefusal};
 
-// A field 5 whose length is right says at most 16,383 rays, a field 6 at most 32,767 gates, so that seven fields in order end within
-// 21 + 8 + 12 + 17 + 1 + 65,532 + 65,534 + 32,767 = 163,892 bytes. Of a longer input one byte more is read: each field's checks look at
-// bytes before that place only, and bytes after field 7 are bytes after field 7 on both. So the number is that of the whole input.
+// Seven fields in order end within 163,892 bytes. Of a longer input one byte more is read: by theorem `long-refusal`
+// (crates/scan_record/proofs/LongRecords.antt) the number of that part is the number of the whole input.
 fn main() {
     let mut input = [0u8; 163893];
     let n = io::read_full(STDIN_FILENO, &mut input);

@@ -17,3 +17,4 @@ pub mod ContentsRead
 pub mod WriteThenRead
 pub mod RoundTrips
 pub mod GateNumbers
+pub mod LongRecords

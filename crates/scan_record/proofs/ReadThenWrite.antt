@@ -169,7 +169,7 @@ record-again bytes small layout =
 -- ---- it is written again without a refusal
 
 -- field 6 has a length of two bytes
-gates-most : (bytes : List ℕ) → ((k : ℕ) → getD bytes k 0 < 256) → AcceptedField bytes 5 → gatesOf (headIn bytes) ≤ 32767
+pub gates-most : (bytes : List ℕ) → ((k : ℕ) → getD bytes k 0 < 256) → AcceptedField bytes 5 → gatesOf (headIn bytes) ≤ 32767
 unfolding gatesOf headIn gatesIn contentLength
 gates-most bytes small field =
     omega (arith, field .size, number-small 2 bytes (fieldStart bytes 5 + 1) small)

@@ -26,3 +26,12 @@ pub then-none : (first second : ℕ) → (first then second) ≡ 0 → (first �
 unfolding _then_
 then-none zero second e = (refl, e)
 then-none (suc number) second e = absurd (omega arith)
+
+-- equal firsts, and equal seconds where no first is given
+pub then-same : {first first′ second second′ : ℕ} → first ≡ first′ → (first′ ≡ 0 → second ≡ second′) → (first then second) ≡ (first′ then second′)
+unfolding _then_
+then-same {first} {first′} {second} {second′} e same = rw e (go first′ same)
+  where
+    go : (n : ℕ) → (n ≡ 0 → second ≡ second′) → (n then second) ≡ (n then second′)
+    go zero f = f refl
+    go (suc n) f = refl
