@@ -5,7 +5,7 @@
 ARCHIVE = target/staticlib/libuldrevin.a
 SHARED = target/libuldrevin.so
 CARGO = cargo --offline --quiet
-N = 1000000
+N = 10000000
 
 run:
 	rt check sheet ledger gate

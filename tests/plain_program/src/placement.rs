@@ -1,12 +1,20 @@
 //! Document 01, "Projection" from "Arc" on: a gate to its position and its cell.
 
 use crate::sine::{by_q, Tables, Q};
+use std::ops::RangeInclusive;
 
 pub const FARTHEST: u32 = 46_000_000;
 pub const LAST_AZIMUTH: u32 = 3_599_999;
 
-const HRAP_SIDE: i64 = 476_250;
-const MOST_COLUMNS_OR_ROWS: u32 = 1_500;
+pub const LATITUDES: RangeInclusive<i64> = 200_000..=750_000;
+pub const LONGITUDES: RangeInclusive<i64> = -1_800_000..=1_800_000;
+pub const CORNERS: RangeInclusive<i64> = -2_000_000_000..=2_000_000_000; // corner x and y of RADOLAN
+pub const SIDES: RangeInclusive<u32> = 10_000..=10_000_000; // of RADOLAN
+pub const FIRST_CELLS: RangeInclusive<i64> = -10_000..=10_000; // I and J of HRAP
+pub const MOST_COLUMNS_OR_ROWS: u32 = 1_500;
+pub const SIZES: RangeInclusive<u32> = 1..=MOST_COLUMNS_OR_ROWS; // columns and rows
+
+pub const HRAP_SIDE: i64 = 476_250;
 
 #[derive(Clone, Copy, Debug, PartialEq, Eq)]
 pub struct Site {
@@ -47,27 +55,25 @@ pub struct Placement {
 
 /// Refusal 4.
 pub(crate) fn check_site(site: Site) -> Result<(), u32> {
-    let good = (200_000..=750_000).contains(&site.latitude)
-        && (-1_800_000..=1_800_000).contains(&site.longitude);
+    let good = LATITUDES.contains(&site.latitude) && LONGITUDES.contains(&site.longitude);
     good.then_some(()).ok_or(4)
 }
 
 fn size_good(columns: u32, rows: u32) -> bool {
-    let size = 1..=MOST_COLUMNS_OR_ROWS;
-    size.contains(&columns) && size.contains(&rows)
+    SIZES.contains(&columns) && SIZES.contains(&rows)
 }
 
 fn radolan_good(grid: RadolanGrid) -> bool {
-    let corner = -2_000_000_000..=2_000_000_000;
-    corner.contains(&grid.x)
-        && corner.contains(&grid.y)
-        && (10_000..=10_000_000).contains(&grid.side)
+    CORNERS.contains(&grid.x)
+        && CORNERS.contains(&grid.y)
+        && SIDES.contains(&grid.side)
         && size_good(grid.columns, grid.rows)
 }
 
 fn hrap_good(grid: HrapGrid) -> bool {
-    let first = -10_000..=10_000;
-    first.contains(&grid.i) && first.contains(&grid.j) && size_good(grid.columns, grid.rows)
+    FIRST_CELLS.contains(&grid.i)
+        && FIRST_CELLS.contains(&grid.j)
+        && size_good(grid.columns, grid.rows)
 }
 
 /// Refusal 5.

@@ -9,7 +9,7 @@ const RADOLAN_LENGTH: usize = 17;
 const HRAP_LENGTH: usize = 9;
 
 /// More are not written.
-const MOST_GATES_TO_WRITE: usize = 32_767;
+pub const MOST_GATES_TO_WRITE: usize = 32_767;
 
 fn bytes_at<const N: usize>(bytes: &[u8], place: usize) -> [u8; N] {
     std::array::from_fn(|k| bytes[place + k])

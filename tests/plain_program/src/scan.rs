@@ -318,11 +318,10 @@ mod tests {
 
     #[test]
     fn refused_contents_leave_the_lists() {
-        let (values, left) = ([NOT_MEASURED, 7], (9, 9, 9));
-        let refused = |number| (Err(number), left.0, left.1, left.2);
-        let over = cell_of(&PLAIN, &[3_599_999], values, [101, 2]);
-        assert_eq!(over, refused(8));
-        assert_eq!(cell_of(&PLAIN, &[3_600_000], values, [101, 2]), refused(7));
-        assert_eq!(cell_of(&PLAIN, &[0, 0], values, [101, 2]), refused(6));
+        let refused = |number| (Err(number), 9, 9, 9);
+        let cell = |azimuths: &[u32]| cell_of(&PLAIN, azimuths, [NOT_MEASURED, 7], [101, 2]);
+        assert_eq!(cell(&[3_599_999]), refused(8));
+        assert_eq!(cell(&[3_600_000]), refused(7));
+        assert_eq!(cell(&[0, 0]), refused(6));
     }
 }

@@ -77,9 +77,9 @@ impl Tables {
         }
     }
 
-    /// For angles whose sum with a quarter fits 64 bits, as every angle of a good scan does.
+    /// The angle is taken modulo first, so that the sum fits for every angle.
     pub fn cosine(&self, angle: i64) -> i64 {
-        self.sine(angle + QUARTER)
+        self.sine(angle.rem_euclid(TURN) + QUARTER)
     }
 }
 

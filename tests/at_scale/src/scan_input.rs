@@ -1,0 +1,227 @@
+//! Draws of a scan's head and its three lists, good and wrong.
+
+use crate::draw::Draw;
+use crate::sites_and_grids::{
+    good_site, grid_anywhere, grid_kind, grid_near, position, range_at_mesh_line, spoil_grid,
+    spoil_site, GridKind,
+};
+use plain_program::placement::{FARTHEST, LAST_AZIMUTH};
+use plain_program::scan::{
+    Given, Head, Weighting, MOST_GATES, MOST_QUALITY, MOST_RAYS, MOST_SPACING, NOT_MEASURED,
+    NO_ECHO,
+};
+use plain_program::sine::Tables;
+
+const LARGEST_VALUE: u16 = 65_533;
+
+#[derive(Clone, Debug)]
+pub struct ScanInput {
+    pub head: Head,
+    pub azimuths: Vec<u32>,
+    pub values: Vec<u16>,
+    pub qualities: Vec<u8>,
+}
+
+impl ScanInput {
+    pub fn given(&self) -> Given<'_> {
+        Given {
+            azimuths: &self.azimuths,
+            values: &self.values,
+            qualities: &self.qualities,
+        }
+    }
+
+    pub fn gate_lists(&self) -> uldrevin::GateLists<'_> {
+        uldrevin::GateLists {
+            azimuths: &self.azimuths,
+            values: &self.values,
+            qualities: &self.qualities,
+        }
+    }
+}
+
+/// Rays, gates in a ray, and the most columns and rows.
+#[derive(Clone, Copy)]
+pub struct Shape {
+    pub rays: u32,
+    pub gates: u32,
+    pub most_cells: u32,
+}
+
+/// First centre and spacing of so many gates in a ray, often with the last centre at its limit.
+fn centres(draw: &mut Draw, gates: u32) -> (u32, u32) {
+    let steps = (gates - 1).max(1);
+    let most = MOST_SPACING.min(FARTHEST / steps);
+    let near = draw.one_of(&[most, most.min(100), most.min(100_000)]);
+    let spacing = draw.good_u32(1..=near);
+    let first = draw.good_u32(0..=FARTHEST - steps * spacing);
+    (first, spacing)
+}
+
+/// The same with the gates a few centimetres apart and, where that can be, before and behind the range.
+fn centres_about(draw: &mut Draw, gates: u32, range: u32) -> (u32, u32) {
+    let spacing = draw.good_u32(1..=3);
+    let before = draw.below(gates as usize) as u32 * spacing;
+    let first = range.saturating_sub(before);
+    (first.min(FARTHEST - (gates - 1) * spacing), spacing)
+}
+
+/// A head with every number good but for the shape, which is taken as it is. Mostly a ray at the azimuth meets the grid.
+fn head(draw: &mut Draw, tables: &Tables, shape: Shape, azimuth: u32) -> Head {
+    let (site, kind) = (good_site(draw), grid_kind(draw));
+    let gates = shape.gates.clamp(1, MOST_GATES);
+    let (first, spacing) = match (kind, draw.below(4)) {
+        (GridKind::Hrap, 0) => {
+            let range = range_at_mesh_line(draw, tables, site, azimuth);
+            centres_about(draw, gates, range)
+        }
+        _ => centres(draw, gates),
+    };
+    let range = first + draw.below(gates as usize) as u32 * spacing;
+    let grid = match draw.below(16) {
+        0 => grid_anywhere(draw, kind, shape.most_cells),
+        _ => {
+            let near = position(tables, kind, site, azimuth, range);
+            grid_near(draw, kind, near, shape.most_cells)
+        }
+    };
+    Head {
+        site,
+        rays: shape.rays,
+        gates: shape.gates,
+        first,
+        spacing,
+        grid,
+        weighting: draw.one_of(&[Weighting::Plain, Weighting::ByQuality]),
+    }
+}
+
+/// Azimuths one behind the other around the circle, all equal, or anywhere.
+fn azimuths(draw: &mut Draw, rays: usize) -> Vec<u32> {
+    let (start, manner) = (draw.good_u32(0..=LAST_AZIMUTH), draw.below(3));
+    let step = (LAST_AZIMUTH + 1) / (rays.max(1) as u32);
+    let azimuth = |ray: usize| match manner {
+        0 => start,
+        1 => (start + ray as u32 * step) % (LAST_AZIMUTH + 1),
+        _ => draw.good_u32(0..=LAST_AZIMUTH),
+    };
+    (0..rays).map(azimuth).collect()
+}
+
+fn mixed_value(draw: &mut Draw) -> u16 {
+    match draw.below(8) {
+        0 => NO_ECHO,
+        1 => NOT_MEASURED,
+        2 => draw.one_of(&[0, 1, LARGEST_VALUE - 1, LARGEST_VALUE]),
+        3 => draw.below(10) as u16,
+        _ => draw.bits() as u16,
+    }
+}
+
+fn values(draw: &mut Draw, gates: usize) -> Vec<u16> {
+    match draw.below(16) {
+        0 => vec![LARGEST_VALUE; gates],
+        1 => vec![NOT_MEASURED; gates],
+        2 => vec![NO_ECHO; gates],
+        _ => (0..gates).map(|_| mixed_value(draw)).collect(),
+    }
+}
+
+fn mixed_quality(draw: &mut Draw) -> u8 {
+    match draw.below(8) {
+        0 => 0,
+        1 => MOST_QUALITY,
+        _ => draw.below(usize::from(MOST_QUALITY) + 1) as u8,
+    }
+}
+
+fn qualities(draw: &mut Draw, gates: usize) -> Vec<u8> {
+    match draw.below(16) {
+        0 => vec![MOST_QUALITY; gates],
+        1 => vec![0; gates],
+        2 => (0..gates).map(|_| draw.below(2) as u8).collect(),
+        _ => (0..gates).map(|_| mixed_quality(draw)).collect(),
+    }
+}
+
+/// A scan with every number good but for the shape, which is taken as it is.
+pub fn scan_of(draw: &mut Draw, tables: &Tables, shape: Shape) -> ScanInput {
+    let gates = (shape.rays * shape.gates) as usize;
+    let azimuths = azimuths(draw, shape.rays as usize);
+    let met = match azimuths.len() {
+        0 => 0,
+        _ => draw.one_of(&azimuths),
+    };
+    ScanInput {
+        head: head(draw, tables, shape, met),
+        azimuths,
+        values: values(draw, gates),
+        qualities: qualities(draw, gates),
+    }
+}
+
+/// Spoils the centres: the first, the spacing, or the last by one centimetre or more.
+fn spoil_centres(draw: &mut Draw, head: &mut Head) {
+    match draw.below(3) {
+        0 => head.first = draw.wrong_u32(0..=FARTHEST),
+        1 => head.spacing = draw.wrong_u32(1..=MOST_SPACING),
+        _ => {
+            let over = draw.good_u32(0..=2);
+            let length = head.gates.saturating_sub(1).wrapping_mul(head.spacing);
+            head.first = (FARTHEST + over).wrapping_sub(length);
+        }
+    }
+}
+
+/// Spoils one number of the head, other than rays and gates.
+pub fn spoil_number(draw: &mut Draw, head: &mut Head) {
+    match draw.below(3) {
+        0 => spoil_centres(draw, head),
+        1 => spoil_site(draw, &mut head.site),
+        _ => spoil_grid(draw, &mut head.grid),
+    }
+}
+
+/// Puts a wrong azimuth or quality somewhere.
+pub fn spoil_contents(draw: &mut Draw, scan: &mut ScanInput) {
+    let azimuth = draw.wrong_u32(0..=LAST_AZIMUTH);
+    let wrong = draw.within(i64::from(MOST_QUALITY) + 1..=255) as u8;
+    let quality = draw.one_of(&[MOST_QUALITY + 1, 255, wrong]);
+    if draw.one_in(2) {
+        put_somewhere(draw, &mut scan.azimuths, azimuth);
+    } else {
+        put_somewhere(draw, &mut scan.qualities, quality);
+    }
+}
+
+/// Puts the number first, last or anywhere in a list that has a place.
+fn put_somewhere<T>(draw: &mut Draw, list: &mut [T], number: T) {
+    if list.is_empty() {
+        return;
+    }
+    let (last, place) = (list.len() - 1, draw.below(list.len()));
+    list[draw.one_of(&[0, last, place])] = number;
+}
+
+fn spoil_length<T: Clone + Default>(draw: &mut Draw, list: &mut Vec<T>) {
+    list.resize(draw.wrong_length(list.len()), T::default());
+}
+
+fn spoil_lengths(draw: &mut Draw, scan: &mut ScanInput) {
+    match draw.below(3) {
+        0 => spoil_length(draw, &mut scan.azimuths),
+        1 => spoil_length(draw, &mut scan.values),
+        _ => spoil_length(draw, &mut scan.qualities),
+    }
+}
+
+/// Spoils one thing of a scan that a call hands in.
+pub fn spoil(draw: &mut Draw, scan: &mut ScanInput) {
+    match draw.below(7) {
+        0 => scan.head.rays = draw.wrong_u32(1..=MOST_RAYS),
+        1 => scan.head.gates = draw.wrong_u32(1..=MOST_GATES),
+        2 => spoil_lengths(draw, scan),
+        3 => spoil_contents(draw, scan),
+        _ => spoil_number(draw, &mut scan.head),
+    }
+}
