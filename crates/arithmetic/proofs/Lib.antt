@@ -10,3 +10,4 @@ pub mod Value
 pub mod Test
 pub mod Table
 pub mod Places
+pub mod SetsLaws

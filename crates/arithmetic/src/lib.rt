@@ -1,1 +1,1 @@
-// Laws of whole numbers and fractions that the other crates cite: definitions in specs/, laws in proofs/. There is no code.
+// Laws of whole numbers, fractions and lists that the other crates cite: definitions in specs/, laws in proofs/. There is no code.

@@ -6,6 +6,7 @@ use Prim.Native.Nat.{ℕ, _+_, _*_, _/_, _%_, _≤_}
 use native.Mathlib.Nat.{mod-lt}
 use lib.ListN.{getD}
 use Rattle.placement.specs.declared.gate.Placement.{Placement}
+use Rattle.placement.specs.declared.gate.Placement.the-variants.{Inside, Outside, Refused}
 use Rattle.placement.specs.Gate.{placementOf}
 use Rattle.placement.specs.Window.{windowOf}
 use Rattle.placement.proofs.Accepted.{range-bounds}
@@ -15,7 +16,8 @@ use Rattle.remap.proofs.AcceptedScan.{accepted-numbers}
 use Rattle.scan_record.specs.RecordPlaces.{headIn, azimuthsIn, valuesIn, qualitiesIn}
 use Rattle.scan_record.specs.RecordRefusal.{headRefusal}
 use Rattle.scan_record.proofs.AcceptedRecord.{accepted-record}
-use Rattle.text.specs.DecimalText.{decimalOf, lineOf}
+use Rattle.text.specs.DecimalText.{decimalOf, lineOf, spaced}
+use Rattle.text.proofs.StoredLaws.{spaced-line}
 use Rattle.gate_text.specs.LedgerLine.{placementWords, rayOf, gateOf, azimuthOf, rangeOf, gateWords, ledgerLine}
 
 pub record GoodHead (head : ScanHead) : Type 0 where
@@ -41,3 +43,10 @@ module _ (bytes : List ℕ) (k : ℕ) {head : ScanHead} {azimuth value quality c
   pub ledger-line-is : head ≡ headIn bytes → azimuth ≡ getD (azimuthsIn bytes) (k / head .gates) 0 → value ≡ getD (valuesIn bytes) k 0 → quality ≡ getD (qualitiesIn bytes) k 0 → columns ≡ windowOf (head .grid) .columns → placement ≡ placementOf (head .site) (head .grid) azimuth (head .first + k % head .gates * head .spacing) → lineOf ((decimalOf (k / head .gates) ∷ decimalOf (k % head .gates) ∷ decimalOf azimuth ∷ decimalOf (head .first + k % head .gates * head .spacing) ∷ decimalOf value ∷ decimalOf quality ∷ []) ++ placementWords columns placement) ≡ ledgerLine bytes k
   unfolding rayOf gateOf azimuthOf rangeOf gateWords ledgerLine
   ledger-line-is h a v q c p = rw (p, c, v, q, a, h)
+
+-- what the record says of a gate, with a space behind each word, and where the gate lies
+pub placement-line : (front : List (List ℕ)) (columns : ℕ) (placement : Placement) → spaced front ++ lineOf (placementWords columns placement) ≡ lineOf (front ++ placementWords columns placement)
+unfolding placementWords
+placement-line front columns (Inside cell x y) = spaced-line front _ _
+placement-line front columns (Outside x y) = spaced-line front _ _
+placement-line front columns (Refused number) = spaced-line front _ _

@@ -1,5 +1,5 @@
-pub mod StoredLaws
 pub mod PlacedColumns
 pub mod LedgerHead
+pub mod NeverRefused
 pub mod GivenLaws
 pub mod GateAnswer

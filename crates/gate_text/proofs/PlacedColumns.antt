@@ -15,7 +15,7 @@ use Rattle.placement.specs.Refusal.{rangeAccepted, azimuthAccepted, siteAccepte
 use Rattle.placement.specs.Sphere.{sphereOf}
 use Rattle.placement.specs.Window.{windowOf, inWindow, located}
 use Rattle.remap.proofs.AcceptedScan.{window-size}
-use Rattle.gate_text.specs.StoredText.{columnsThere}
+use Rattle.gate_text.specs.PlacedColumns.{columnsThere}
 
 -- of four tests that all pass, the third
 third-passed : (a b c d : Bool) → _≡_ {A = ℕ} (cond a (cond b (cond c (cond d 0 7) 5) 4) 3) 0 → c ≡ true

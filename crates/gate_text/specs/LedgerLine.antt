@@ -8,15 +8,13 @@ use Rattle.placement.specs.Gate.{placementOf}
 use Rattle.placement.specs.Window.{windowOf}
 use Rattle.scan_record.specs.RecordPlaces.{headIn, azimuthsIn, valuesIn, qualitiesIn}
 use Rattle.text.specs.DecimalText.{decimalOf, signedDecimalOf, lineOf}
+use Rattle.text.specs.RefusedLine.{refusedWord}
 
--- the words `outside` and `refused`
+-- the word `outside`
 unfoldable pub outsideWord : List ℕ
 outsideWord = 111 ∷ 117 ∷ 116 ∷ 115 ∷ 105 ∷ 100 ∷ 101 ∷ []
 
-unfoldable pub refusedWord : List ℕ
-refusedWord = 114 ∷ 101 ∷ 102 ∷ 117 ∷ 115 ∷ 101 ∷ 100 ∷ []
-
--- a cell is row x columns + column; a gate of a good record is never refused
+-- a cell is row x columns + column; a gate of a good record is never refused (proofs/NeverRefused.antt)
 unfoldable pub placementWords : ℕ → Placement → List (List ℕ)
 placementWords columns (Inside cell x y) =
     signedDecimalOf x ∷ signedDecimalOf y ∷ decimalOf (cell % columns) ∷ decimalOf (cell / columns) ∷ []

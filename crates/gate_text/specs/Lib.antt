@@ -1,4 +1,5 @@
-pub mod StoredText
+pub mod PlacedColumns
+pub mod LedgerHeading
 pub mod LedgerLine
 pub mod GivenWords
 pub mod GateText

@@ -1,16 +1,16 @@
 // One gate given in words, and the line that answers it.
 use crate::columns::columns_of;
-use crate::fields::put_integer;
-use crate::fields::put_number;
-use crate::fields::put_text;
 use crate::given::hrap_given;
 use crate::given::is_given;
 use crate::given::radolan_given;
 use crate::given::site_given;
 use crate::given::unsigned_at;
-use crate::ledger::put_refused;
 use placement::Grid;
 use placement::Placement;
+use text::put_integer;
+use text::put_number;
+use text::put_refused;
+use text::put_text;
 ghost use mathlib.Core.Bool.{true};
 ghost use mathlib.Core.Path.{_≡_};
 ghost use Prim.Native.Nat.{_≤_};
@@ -18,8 +18,9 @@ ghost use lib.ListN.{length};
 ghost use lib.Seq.{sets};
 ghost use Rattle.placement.specs.declared.gate.Placement.the-variants.{Inside, Outside};
 ghost use Rattle.text.specs.DecimalText.{lineOf};
+ghost use Rattle.text.specs.StoredText.{Stored};
 ghost use Rattle.gate_text.specs.GateText.{usageLine, answerWords, answerText, gateText};
-ghost use Rattle.gate_text.specs.StoredText.{Stored, columnsThere};
+ghost use Rattle.gate_text.specs.PlacedColumns.{columnsThere};
 
 // Any words, each ended by a byte 0; words that give no gate are answered by the usage line.
 pub fn gate_text(words: &[u8], line: &mut [u8]) -> usize

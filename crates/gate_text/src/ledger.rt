@@ -1,22 +1,24 @@
 // The line of one gate of a record: ray, gate, azimuth, range, value, quality, X, Y, then column and row or the word `outside`.
 use crate::columns::columns_of;
-use crate::fields::put_integer;
-use crate::fields::put_number;
-use crate::fields::put_text;
 use placement::Placement;
+use text::put_integer;
+use text::put_number;
+use text::put_refused;
+use text::put_text;
 ghost use mathlib.Core.Bool.{true};
 ghost use mathlib.Core.List.{[], _∷_};
 ghost use mathlib.Core.Path.{_≡_};
 ghost use Prim.Native.Nat.{_≤_, _<_, _+_};
 ghost use lib.ListN.{length};
 ghost use lib.Seq.{sets};
-ghost use Rattle.placement.specs.declared.gate.Placement.the-variants.{Inside, Outside, Refused};
+ghost use Rattle.placement.specs.declared.gate.Placement.the-variants.{Inside, Outside};
 ghost use Rattle.remap.specs.Scan.{gatesOf};
 ghost use Rattle.scan_record.specs.RecordPlaces.{headIn};
 ghost use Rattle.scan_record.specs.RecordRefusal.{headRefusal};
-ghost use Rattle.text.specs.DecimalText.{decimalOf, lineOf};
+ghost use Rattle.text.specs.DecimalText.{decimalOf, lineOf, spaced};
+ghost use Rattle.text.specs.StoredText.{Stored};
 ghost use Rattle.gate_text.specs.LedgerLine.{placementWords, ledgerLine};
-ghost use Rattle.gate_text.specs.StoredText.{Stored, columnsThere, spaced};
+ghost use Rattle.gate_text.specs.PlacedColumns.{columnsThere};
 
 // Gate k of a good record, gates numbered ray by ray.
 pub fn ledger_line(bytes: &[u8], k: usize, line: &mut [u8]) -> usize
@@ -65,7 +67,7 @@ fn put_gate(
     put_number(line, after_value, quality as u64, 32)
 }
 
-// Where a gate lies. A gate of a good record is never refused.
+// Where a gate lies. A gate of a good record is never refused (proofs/NeverRefused.antt).
 fn put_place(line: &mut [u8], at: usize, columns: u32, placement: Placement) -> usize
     requires { ⌜ (at + 84 ≤ length (now line)) × (columnsThere columns placement ≡ true) ⌝ }
     ensures { λ r. ⌜ Stored (now (line .entry)) at (lineOf (placementWords columns placement)) r (now (line .exit)) ⌝ }
@@ -97,13 +99,4 @@ fn put_outside(line: &mut [u8], at: usize, x: i64, y: i64) -> usize
     let after_x = put_integer(line, at, x, 32);
     let after_y = put_integer(line, after_x, y, 32);
     put_text(line, after_y, b"outside", 10)
-}
-
-pub fn put_refused(line: &mut [u8], at: usize, number: u32) -> usize
-    requires { ⌜ at + 84 ≤ length (now line) ⌝ }
-    ensures { λ r. ⌜ Stored (now (line .entry)) at (lineOf (placementWords 0 (Refused number))) r (now (line .exit)) ⌝ }
-    ensures bounded { λ r. ⌜ r ≤ at + 84 ⌝ }
-{
-    let after_word = put_text(line, at, b"refused", 32);
-    put_number(line, after_word, number as u64, 10)
 }

@@ -1,10 +1,13 @@
-// Gates as lines of text: a record's gates one by one, and one gate given in words.
+// A record's gates as lines of text with a heading, a record's refusal, and one gate given in words.
 mod columns;
-mod fields;
 mod gate;
 mod given;
+mod heading;
 mod ledger;
+mod refused;
 mod words;
 
 pub use gate::gate_text;
+pub use heading::ledger_heading;
 pub use ledger::ledger_line;
+pub use refused::refused_line;

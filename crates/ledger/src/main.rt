@@ -26,18 +26,21 @@ fn print_ledger(bytes: &[u8]) {
 }
 
 fn print_refusal(number: u32) {
-    io::write_all(STDOUT_FILENO, b"refused ");
-    io::print_decimal(STDOUT_FILENO, number as u64);
-    io::write_all(STDOUT_FILENO, b"\n");
+    let mut line = [0u8; 256];
+    let n = gate_text::refused_line(number, &mut line);
+    io::write_all(STDOUT_FILENO, &line[..n]);
+}
+
+fn print_heading() {
+    let mut line = [0u8; 256];
+    let n = gate_text::ledger_heading(&mut line);
+    io::write_all(STDOUT_FILENO, &line[..n]);
 }
 
 fn print_lines(bytes: &[u8], gates: usize)
     requires { ⌜ (headRefusal (now bytes) ≡ 0) × (gates ≤ gatesOf (headIn (now bytes))) ⌝ }
 {
-    io::write_all(
-        STDOUT_FILENO,
-        b"ray gate azimuth range value quality x y column row\n",
-    );
+    print_heading();
     let mut k = 0;
     while k < gates {
         print_line(bytes, k);

@@ -8,12 +8,12 @@ use native.Mathlib.Omega.{arith}
 use borrow.Author.Tests.{leb-true, le-leb}
 use lib.Dec.{leb}
 use lib.ListN.{length, getD}
-use Rattle.arithmetic.specs.Places.{table}
+use Rattle.arithmetic.specs.Places.{table, allOf}
 use Rattle.arithmetic.proofs.Places.{table-length, table-at, table-ext, all-at}
 use Rattle.arithmetic.proofs.Test.{and-true}
 use Rattle.placement.specs.Gate.{placementOf, unlessRefused, entryOf}
 use Rattle.placement.specs.Position.{positionOf}
-use Rattle.placement.specs.Refusal.{inRange, rangeAccepted, azimuthAccepted, firstRefusal, gateRefusal}
+use Rattle.placement.specs.Refusal.{inRange, rangeAccepted, azimuthAccepted, siteAccepted, gridAccepted, firstRefusal, gateRefusal}
 use Rattle.placement.specs.Survey.{Surveyed, surveyOf, surveyed, surveyedEntry}
 use Rattle.placement.proofs.SurveyLimits.{surveyed-of}
 use Rattle.remap.specs.declared.scan.ScanHead.{ScanHead}
@@ -31,6 +31,13 @@ unfolding centresAccepted
 centres-most gates first spacing g e h =
     let last = leb-true (first + (gates - 1) * spacing) 46000000 (and-true (leb first 46000000 && inRange 1 1000000 spacing) _ e .1) in
     omega (arith, last, mul-le-mul-right {m = g} {n = gates - 1} spacing (omega arith))
+
+-- no gate of accepted numbers is refused; past the last ray stands azimuth 0
+pub gate-accepted : (head : ScanHead) (azimuths : List ℕ) → 1 ≤ head .gates → centresAccepted (head .gates) (head .first) (head .spacing) ≡ true → siteAccepted (head .site) ≡ true → gridAccepted (head .grid) ≡ true → allOf azimuthAccepted azimuths ≡ true → (k : ℕ) → gateRefusal (head .site) (head .grid) (getD azimuths (k / head .gates) 0) (head .first + (k % head .gates) * head .spacing) ≡ 0
+unfolding gateRefusal firstRefusal rangeAccepted azimuthAccepted
+gate-accepted head azimuths least centres site grid good k =
+    let range : leb (head .first + (k % head .gates) * head .spacing) 46000000 ≡ true = le-leb _ _ (centres-most (head .gates) (head .first) (head .spacing) (k % head .gates) centres (mod-lt k least)) in
+    rw (range, site, grid, all-at azimuthAccepted azimuths refl good (k / head .gates))
 
 -- a gate that is not refused has the entry of its survey
 accepted-entry : (head : ScanHead) (azimuth range : ℕ) → gateRefusal (head .site) (head .grid) azimuth range ≡ 0 → surveyedEntry (surveyOf (head .site) (head .grid)) azimuth range ≡ entryOf (placementOf (head .site) (head .grid) azimuth range)
@@ -54,10 +61,7 @@ module _ {head : ScanHead} {azimuths values qualities ledger counts qualitySums 
   }
 
   not-refused : (k : ℕ) → gateRefusal (head .site) (head .grid) (getD azimuths (k / head .gates) 0) (head .first + (k % head .gates) * head .spacing) ≡ 0
-  unfolding gateRefusal firstRefusal rangeAccepted azimuthAccepted
-  not-refused k =
-      let range : leb (head .first + (k % head .gates) * head .spacing) 46000000 ≡ true = le-leb _ _ (gate-range (k % head .gates) (mod-lt k (good .gates-least))) in
-      rw (range, good .site, good .grid, all-at azimuthAccepted azimuths refl (good .azimuths-good) (k / head .gates))
+  not-refused k = gate-accepted head azimuths (good .gates-least) (good .centres) (good .site) (good .grid) (good .azimuths-good) k
 
   pub ledger-is : table (surveyedGate (surveyOf (head .site) (head .grid)) (head .gates) (head .first) (head .spacing) azimuths) (length ledger) ≡ ledgerOf head azimuths
   unfolding ledgerOf entryAt surveyedGate

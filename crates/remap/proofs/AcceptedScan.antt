@@ -2,8 +2,7 @@
 use mathlib.Core.Path.{_≡_, refl}
 use mathlib.Core.Bool.{Bool, true, false, _&&_, cond}
 use mathlib.Core.List.{List}
-use Prim.Native.Nat.{ℕ, suc, _≤_}
-use native.Mathlib.Nat.{mul-le-mul}
+use Prim.Native.Nat.{ℕ, suc}
 use native.Mathlib.Omega.{arith}
 use borrow.Author.Tests.{eqb-true, eq-eqb}
 use lib.Dec.{eqb}
@@ -19,18 +18,12 @@ use Rattle.remap.specs.Remap.{refusalFor}
 use Rattle.remap.specs.Scan.{centresAccepted, gatesOf, cellsOf, listsAccepted, lengthsAccepted, scanNumber, scanRefusal}
 use Rattle.remap.specs.ScanRoom.{AcceptedScan}
 
--- ---- the grid's cells
+-- ---- the grid's size
 
 pub window-size : (grid : Grid) → gridAccepted grid ≡ true → AcceptedSize (windowOf grid .columns) (windowOf grid .rows)
 unfolding windowOf
 window-size (Radolan g) e = accepted-radolan g e .size
 window-size (Hrap g) e = accepted-hrap g e .size
-
-pub cells-most : (head : ScanHead) → gridAccepted (head .grid) ≡ true → cellsOf head ≤ 2250000
-unfolding cellsOf
-cells-most head e =
-    let size = window-size (head .grid) e in
-    mul-le-mul (size .columns-most) (size .rows-most)
 
 -- ---- the lengths
 

@@ -2,7 +2,6 @@
 use placement::Survey;
 use placement::ray_ledger;
 ghost use mathlib.Core.Path.{_≡_};
-ghost use Prim.Native.Nat.{_*_};
 ghost use lib.ListN.{length};
 ghost use Rattle.arithmetic.specs.Places.{table};
 ghost use Rattle.placement.specs.Survey.{Surveyed};

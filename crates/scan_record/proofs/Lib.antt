@@ -1,6 +1,5 @@
 pub mod StandsAt
 pub mod BigEndianLaws
-pub mod SetsLaws
 pub mod Then
 pub mod ReadNumbers
 pub mod LayoutSteps

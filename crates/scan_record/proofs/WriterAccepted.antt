@@ -28,7 +28,7 @@ use Rattle.scan_record.specs.RecordRefusal.{writeRefusal}
 use Rattle.scan_record.specs.RecordRoom.{recordLength, Writable}
 use Rattle.scan_record.proofs.AcceptedRecord.{accepted-writing}
 use Rattle.scan_record.proofs.ContentLengths.{record-length}
-use Rattle.scan_record.proofs.SetsLaws.{sets-start}
+use Rattle.arithmetic.proofs.SetsLaws.{sets-start}
 use Rattle.scan_record.proofs.Then.{then-kept, then-next}
 
 -- ---- signed numbers in words of 64 bits

@@ -11,7 +11,7 @@ use Rattle.scan_record.specs.BigEndian.{bytesOf, allBytesOf}
 use Rattle.scan_record.specs.RecordBytes.{siteBytes, gatesBytes, gridBytes, weightingByte, contentsOf, headerBytes, fieldBytes, fieldsBytes, recordOf}
 use Rattle.scan_record.proofs.BigEndianLaws.{bytes-length, all-bytes-length, all-bytes-more}
 use Rattle.scan_record.proofs.ContentLengths.{site-length, gates-length, field-length}
-use Rattle.scan_record.proofs.SetsLaws.{sets-append}
+use Rattle.arithmetic.proofs.SetsLaws.{sets-append}
 
 -- a second piece right behind the first
 sets-then : (a : List ℕ) (i : ℕ) (xs ys : List ℕ) {b c : List ℕ} {j : ℕ} → b ≡ sets a i xs → j ≡ i + length xs → c ≡ sets b j ys → c ≡ sets a i (xs ++ ys)

@@ -1,4 +1,3 @@
-pub mod StoredText
 pub mod CellLines
 pub mod PlacedTotal
 pub mod GoodRecord

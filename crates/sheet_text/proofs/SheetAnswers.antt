@@ -12,9 +12,10 @@ use Rattle.scan_record.specs.declared.reader.ReadScan.the-variants.{Head, Refus
 use Rattle.scan_record.specs.RecordPlaces.{headIn}
 use Rattle.scan_record.specs.RecordRefusal.{headRefusal}
 use Rattle.scan_record.specs.RecordAnswer.{readAnswer}
-use Rattle.scan_record.proofs.SetsLaws.{sets-start}
-use Rattle.sheet_text.specs.SheetText.{tooLarge, refusedLine, refusedOr, goodSheet, sizedSheet, sheetText}
-use Rattle.sheet_text.specs.SheetRoom.{Stored}
+use Rattle.arithmetic.proofs.SetsLaws.{sets-start}
+use Rattle.text.specs.RefusedLine.{refusedLine}
+use Rattle.text.specs.StoredText.{Stored}
+use Rattle.sheet_text.specs.SheetText.{tooLarge, refusedOr, goodSheet, sizedSheet, sheetText}
 
 -- ---- the two sizes
 
@@ -64,9 +65,9 @@ pub record Printed (before after : List ℕ) (next : ℕ) (text : List ℕ) : Ty
   pub the-length : next ≡ length text
   pub the-page : after ≡ text ++ drop (length text) before
 
-pub printed : {before after : List ℕ} {next : ℕ} {text whole : List ℕ} → next ≤ 120000 → 120000 ≤ length before → text ≡ whole → Stored before after 0 next text → Printed before after next whole
+pub printed : {before after : List ℕ} {next : ℕ} {text whole : List ℕ} → next ≤ 120000 → 120000 ≤ length before → text ≡ whole → Stored before 0 text next after → Printed before after next whole
 printed {before} {after} {next} {text} {whole} h i e s =
     rw (sym e) (record {
-      the-length = s .next-place ∙ zero-add (length text);
-      the-page = s .the-page ∙ sets-start before text (omega (arith, s .next-place));
+      the-length = s .the-end ∙ zero-add (length text);
+      the-page = s .the-bytes ∙ sets-start before text (omega (arith, s .the-end));
     })

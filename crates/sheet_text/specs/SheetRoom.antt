@@ -1,18 +1,12 @@
--- Text stored in a page, and what the private functions ask of a record and of the lent lists. Assumes nothing.
+-- What the private functions ask of a record and of the lent lists. Assumes nothing.
 use mathlib.Core.List.{List}
 use mathlib.Core.Path.{_≡_}
-use Prim.Native.Nat.{ℕ, _+_, _≤_}
+use Prim.Native.Nat.{ℕ, _≤_}
 use lib.ListN.{length}
-use lib.Seq.{sets}
 use Rattle.remap.specs.declared.scan.ScanHead.{ScanHead}
 use Rattle.remap.specs.Scan.{gatesOf, cellsOf}
 use Rattle.scan_record.specs.RecordPlaces.{headIn}
 use Rattle.scan_record.specs.RecordRefusal.{headRefusal}
-
--- the text stands in the page from one place up to another, and elsewhere the page is as it was
-pub record Stored (before after : List ℕ) (at next : ℕ) (text : List ℕ) : Type 0 where
-  pub next-place : next ≡ at + length text
-  pub the-page : after ≡ sets before at text
 
 -- a good record within the two sizes
 pub record Sized (bytes : List ℕ) (head : ScanHead) : Type 0 where

@@ -12,6 +12,7 @@ use Rattle.remap.specs.Remap.{ledgerOf, countsOf, meansOf, cellQualitiesOf}
 use Rattle.scan_record.specs.RecordPlaces.{headIn, azimuthsIn, valuesIn, qualitiesIn}
 use Rattle.scan_record.specs.RecordRefusal.{headRefusal}
 use Rattle.text.specs.DecimalText.{decimalOf, lineOf}
+use Rattle.text.specs.RefusedLine.{refusedLine}
 
 -- ---- the words, in the bytes of ASCII
 
@@ -27,16 +28,9 @@ gatesWord = 103 ∷ 97 ∷ 116 ∷ 101 ∷ 115 ∷ []
 unfoldable pub placedWord : List ℕ
 placedWord = 112 ∷ 108 ∷ 97 ∷ 99 ∷ 101 ∷ 100 ∷ []
 
--- "refused"
-unfoldable pub refusedWord : List ℕ
-refusedWord = 114 ∷ 101 ∷ 102 ∷ 117 ∷ 115 ∷ 101 ∷ 100 ∷ []
-
 -- "too" and "large"
 unfoldable pub tooLarge : List ℕ
 tooLarge = lineOf ((116 ∷ 111 ∷ 111 ∷ []) ∷ (108 ∷ 97 ∷ 114 ∷ 103 ∷ 101 ∷ []) ∷ [])
-
-unfoldable pub refusedLine : ℕ → List ℕ
-refusedLine number = lineOf (refusedWord ∷ decimalOf number ∷ [])
 
 -- ---- the sheet of a grid of so many columns
 

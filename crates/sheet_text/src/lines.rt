@@ -1,47 +1,26 @@
 // Lines of a sheet, stored in a page one behind the other. Each function answers the place behind the last byte that it stored. A number
 // takes 20 digits at most.
+use text::put_number;
 ghost use mathlib.Core.Path.{_≡_};
-ghost use mathlib.Core.List.{[], _∷_, _++_};
 ghost use Prim.Native.Nat.{_≤_, _+_};
 ghost use lib.ListN.{length, getD};
 ghost use Rattle.arithmetic.specs.Places.{sumTo};
-ghost use Rattle.text.specs.DecimalText.{decimalOf};
-ghost use Rattle.sheet_text.specs.SheetText.{topLines, cellLine, cellLines, sheetLines, tooLarge, refusedLine};
-ghost use Rattle.sheet_text.specs.SheetRoom.{Stored};
-
-// A number and the byte behind it: 32 is a space, 10 a line end.
-fn put_number(page: &mut [u8], at: usize, n: u64, behind: u8) -> usize
-    requires { ⌜ at + 21 ≤ length (now page) ⌝ }
-    ensures { λ r. ⌜ r ≤ at + 21 ⌝ }
-    ensures { λ r. ⌜ Stored (now (page .entry)) (now (page .exit)) at r (decimalOf n ++ behind ∷ []) ⌝ }
-{
-    let next = text::put_decimal(page, at, n);
-    page[next] = behind;
-    next + 1
-}
+ghost use Rattle.text.specs.StoredText.{Stored};
+ghost use Rattle.sheet_text.specs.SheetText.{topLines, cellLine, cellLines, sheetLines, tooLarge};
 
 pub fn put_too_large(page: &mut [u8]) -> usize
     requires { ⌜ 120000 ≤ length (now page) ⌝ }
     ensures { λ r. ⌜ r ≤ 120000 ⌝ }
-    ensures { λ r. ⌜ Stored (now (page .entry)) (now (page .exit)) 0 r tooLarge ⌝ }
+    ensures { λ r. ⌜ Stored (now (page .entry)) 0 tooLarge r (now (page .exit)) ⌝ }
 {
     text::put_word(page, 0, b"too large\n")
-}
-
-pub fn put_refused(page: &mut [u8], number: u32) -> usize
-    requires { ⌜ 120000 ≤ length (now page) ⌝ }
-    ensures { λ r. ⌜ r ≤ 120000 ⌝ }
-    ensures { λ r. ⌜ Stored (now (page .entry)) (now (page .exit)) 0 r (refusedLine number) ⌝ }
-{
-    let at = text::put_word(page, 0, b"refused ");
-    put_number(page, at, number as u64, 10)
 }
 
 // The two lines above the cells.
 fn put_top(page: &mut [u8], columns: u64, rows: u64, gates: u64, placed: u64) -> usize
     requires { ⌜ 102 ≤ length (now page) ⌝ }
     ensures { λ r. ⌜ r ≤ 102 ⌝ }
-    ensures { λ r. ⌜ Stored (now (page .entry)) (now (page .exit)) 0 r (topLines columns rows gates placed) ⌝ }
+    ensures { λ r. ⌜ Stored (now (page .entry)) 0 (topLines columns rows gates placed) r (now (page .exit)) ⌝ }
 {
     let a = text::put_word(page, 0, b"grid ");
     let b = put_number(page, a, columns, 32);
@@ -64,7 +43,7 @@ fn put_cell(
 ) -> usize
     requires { ⌜ (1 ≤ columns) × (at + 105 ≤ length (now page)) ⌝ }
     ensures { λ r. ⌜ r ≤ at + 105 ⌝ }
-    ensures { λ r. ⌜ Stored (now (page .entry)) (now (page .exit)) at r (cellLine columns cell mean quality count) ⌝ }
+    ensures { λ r. ⌜ Stored (now (page .entry)) at (cellLine columns cell mean quality count) r (now (page .exit)) ⌝ }
 {
     let a = put_number(page, at, (cell % columns) as u64, 32);
     let b = put_number(page, a, (cell / columns) as u64, 32);
@@ -84,7 +63,7 @@ fn put_cells(
 ) -> usize
     requires { ⌜ (1 ≤ columns) × (at ≤ 102) × (length (now counts) ≤ 1024) × (length (now means) ≡ length (now counts)) × (length (now qualities) ≡ length (now counts)) × (120000 ≤ length (now page)) ⌝ }
     ensures { λ r. ⌜ r ≤ 120000 ⌝ }
-    ensures { λ r. ⌜ Stored (now (page .entry)) (now (page .exit)) at r (cellLines columns (now (counts .entry)) (now (means .entry)) (now (qualities .entry)) (length (now (counts .entry)))) ⌝ }
+    ensures { λ r. ⌜ Stored (now (page .entry)) at (cellLines columns (now (counts .entry)) (now (means .entry)) (now (qualities .entry)) (length (now (counts .entry)))) r (now (page .exit)) ⌝ }
 {
     let mut next = at;
     let mut cell = 0;
@@ -139,7 +118,7 @@ pub fn put_sheet(
 ) -> usize
     requires { ⌜ (1 ≤ columns) × (length (now counts) ≤ 1024) × (length (now means) ≡ length (now counts)) × (length (now qualities) ≡ length (now counts)) × (120000 ≤ length (now page)) ⌝ }
     ensures { λ r. ⌜ r ≤ 120000 ⌝ }
-    ensures { λ r. ⌜ Stored (now (page .entry)) (now (page .exit)) 0 r (sheetLines columns rows gates (sumTo (λ k. getD (now (counts .entry)) k 0) (length (now (counts .entry)))) (now (counts .entry)) (now (means .entry)) (now (qualities .entry))) ⌝ }
+    ensures { λ r. ⌜ Stored (now (page .entry)) 0 (sheetLines columns rows gates (sumTo (λ k. getD (now (counts .entry)) k 0) (length (now (counts .entry)))) (now (counts .entry)) (now (means .entry)) (now (qualities .entry))) r (now (page .exit)) ⌝ }
 {
     let placed = total(counts);
     let at = put_top(page, columns as u64, rows as u64, gates as u64, placed);

@@ -1,23 +1,23 @@
 // What is printed for any bytes.
-use crate::lines::put_refused;
 use crate::lines::put_too_large;
 use crate::record_sheet::good_sheet;
 use remap::ScanHead;
 use scan_record::ReadScan;
+use text::put_refused;
 ghost use mathlib.Core.List.{_++_};
 ghost use mathlib.Core.Path.{_≡_};
 ghost use Prim.Native.Nat.{_≤_};
 ghost use lib.ListN.{length, drop};
 ghost use Rattle.scan_record.specs.RecordPlaces.{headIn};
 ghost use Rattle.scan_record.specs.RecordRefusal.{headRefusal};
+ghost use Rattle.text.specs.StoredText.{Stored};
 ghost use Rattle.sheet_text.specs.SheetText.{sizedSheet, sheetText};
-ghost use Rattle.sheet_text.specs.SheetRoom.{Stored};
 
 // At most 4,096 gates and 1,024 cells.
 fn sized_sheet(bytes: &[u8], head: ScanHead, page: &mut [u8]) -> usize
     requires { ⌜ (headRefusal (now bytes) ≡ 0) × (head ≡ headIn (now bytes)) × (120000 ≤ length (now page)) ⌝ }
     ensures { λ r. ⌜ r ≤ 120000 ⌝ }
-    ensures { λ r. ⌜ Stored (now (page .entry)) (now (page .exit)) 0 r (sizedSheet (now (bytes .entry))) ⌝ }
+    ensures { λ r. ⌜ Stored (now (page .entry)) 0 (sizedSheet (now (bytes .entry))) r (now (page .exit)) ⌝ }
 {
     if 4096 < remap::gates_of(head) {
         return put_too_large(page);
@@ -39,7 +39,7 @@ pub fn sheet(bytes: &[u8], page: &mut [u8]) -> usize
         return put_too_large(page);
     }
     match scan_record::read_head(bytes) {
-        ReadScan::Refused(number) => put_refused(page, number),
+        ReadScan::Refused(number) => put_refused(page, 0, number),
         ReadScan::Head(head) => sized_sheet(bytes, head, page),
     }
 }

@@ -3,8 +3,9 @@ use crate::lines::put_sheet;
 use remap::ScanHead;
 ghost use Prim.Native.Nat.{_≤_};
 ghost use lib.ListN.{length};
+ghost use Rattle.text.specs.StoredText.{Stored};
 ghost use Rattle.sheet_text.specs.SheetText.{goodSheet};
-ghost use Rattle.sheet_text.specs.SheetRoom.{Stored, Sized, Fitting};
+ghost use Rattle.sheet_text.specs.SheetRoom.{Sized, Fitting};
 
 // With lists of exact lengths: read, remap, print.
 fn cells_text(
@@ -23,7 +24,7 @@ fn cells_text(
 ) -> usize
     requires { ⌜ Sized (now bytes) head × Fitting head (now azimuths) (now values) (now qualities) (now ledger) (now counts) (now «quality_sums») (now «value_sums») (now means) (now «cell_qualities») × (120000 ≤ length (now page)) ⌝ }
     ensures { λ r. ⌜ r ≤ 120000 ⌝ }
-    ensures { λ r. ⌜ Stored (now (page .entry)) (now (page .exit)) 0 r (goodSheet (now (bytes .entry))) ⌝ }
+    ensures { λ r. ⌜ Stored (now (page .entry)) 0 (goodSheet (now (bytes .entry))) r (now (page .exit)) ⌝ }
 {
     scan_record::read_scan(bytes, azimuths, values, qualities);
     remap::remap(
@@ -56,7 +57,7 @@ fn cells_text(
 pub fn good_sheet(bytes: &[u8], head: ScanHead, page: &mut [u8]) -> usize
     requires { ⌜ Sized (now bytes) head × (120000 ≤ length (now page)) ⌝ }
     ensures { λ r. ⌜ r ≤ 120000 ⌝ }
-    ensures { λ r. ⌜ Stored (now (page .entry)) (now (page .exit)) 0 r (goodSheet (now (bytes .entry))) ⌝ }
+    ensures { λ r. ⌜ Stored (now (page .entry)) 0 (goodSheet (now (bytes .entry))) r (now (page .exit)) ⌝ }
 {
     let rays = head.rays as usize;
     let gates = remap::gates_of(head);

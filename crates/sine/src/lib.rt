@@ -3,7 +3,7 @@ mod tables;
 
 ghost use mathlib.Core.Path.{_≡_};
 ghost use Prim.Native.Nat.{_*_, _<_, _≤_};
-ghost use lib.IntN.{pos, negℤ};
+ghost use lib.IntN.{negℤ};
 ghost use Rattle.arithmetic.specs.Floor.{_modulo_};
 ghost use Rattle.sine.specs.Quarters.{inTurn};
 ghost use Rattle.sine.specs.Sine.{quarterSine, sineOf, cosineOf};

@@ -1,6 +1,6 @@
-pub mod SetsLaws
 pub mod DecimalLaws
 pub mod StoredDigits
+pub mod StoredLaws
 pub mod WordLaws
 pub mod ParsedCases
 pub mod ReadBack

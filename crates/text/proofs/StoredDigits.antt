@@ -11,7 +11,7 @@ use lib.Seq.{sets}
 use lib.Signed.{mag, nonNeg, _<ℤ_}
 use Rattle.arithmetic.proofs.Order.{not-negative}
 use Rattle.text.specs.DecimalText.{digitOf, decimalWith, decimalOf, signedDecimalOf}
-use Rattle.text.proofs.SetsLaws.{sets-next}
+use Rattle.arithmetic.proofs.SetsLaws.{sets-next}
 use Rattle.text.proofs.DecimalLaws.{decimal-one, decimal-more, length-more, decimal-most, places-enough}
 
 pub no-digit : (l : List ℕ) (at places n : ℕ) → places ≡ 0 → (at ≡ at + length (decimalWith places n)) × (l ≡ sets l at (decimalWith places n))

@@ -27,3 +27,8 @@ unfoldable pub lineOf : List (List ℕ) → List ℕ
 lineOf [] = 10 ∷ []
 lineOf (word ∷ []) = word ++ 10 ∷ []
 lineOf (word ∷ next ∷ words) = word ++ 32 ∷ lineOf (next ∷ words)
+
+-- words with a space behind each
+unfoldable pub spaced : List (List ℕ) → List ℕ
+spaced [] = []
+spaced (word ∷ words) = word ++ 32 ∷ spaced words

@@ -1,2 +1,4 @@
 pub mod DecimalText
+pub mod StoredText
+pub mod RefusedLine
 pub mod WordValue

@@ -6,7 +6,7 @@ use placement::Placement;
 use placement::RadolanGrid;
 use placement::Site;
 ghost use mathlib.Core.Path.{_≡_};
-ghost use Rattle.placement.specs.Gate.{placementOf, refusalOf};
+ghost use Rattle.placement.specs.Gate.{refusalOf};
 ghost use Rattle.uldrevin.specs.Answer.{cellAfter, xAfter, yAfter, radolanPlacement, hrapPlacement};
 
 #[no_mangle]

@@ -10,11 +10,8 @@ Inv-loop bytes gates k₀ k = k ≤ gates
 abbrev μ-loop : tie.MeasureT-loop
 μ-loop bytes gates k₀ k = gates - k
 
-slice-aggregate-write-all : tie.Need-slice-aggregate-write-all Inv-loop μ-loop
-slice-aggregate-write-all c = search needs
-
-write-all-requires : tie.Need-write-all-requires Inv-loop μ-loop
-write-all-requires c κs = search needs
+print-heading-requires : tie.Need-print-heading-requires Inv-loop μ-loop
+print-heading-requires c κs = search needs
 
 loop-holds : tie.Need-loop-holds Inv-loop μ-loop
 loop-holds c = search needs
@@ -40,8 +37,7 @@ print-lines-spec =
     (tie.spec
     Inv-loop
     μ-loop
-    slice-aggregate-write-all
-    write-all-requires
+    print-heading-requires
     loop-holds
     print-line-requires
     add-k

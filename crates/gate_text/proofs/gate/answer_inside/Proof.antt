@@ -3,7 +3,7 @@ use native.Mathlib.Omega.{arith}
 use native.Mathlib.Nat.{mod-lt, div-le-self}
 use mir.Facts.{toZ-ofZ}
 use Rattle.gate_text.specs.GateText.{answerWords, insideWord}
-use Rattle.gate_text.proofs.StoredLaws.{line-last, line-before}
+use Rattle.text.proofs.StoredLaws.{line-last, line-before}
 use borrow.Author.Needs.{needs}
 use Rattle.gate_text.proofs.gate.answer_inside.Statement.{statement}
 use Rattle.gate_text.proofs.gate.answer_inside.Tie as tie

@@ -2,7 +2,7 @@
 use mathlib.Core.Path.{sym, ap, _∙_}
 use Rattle.gate_text.specs.GateText.{hrapWord, radolanWord, answerText}
 use Rattle.gate_text.proofs.GateAnswer.{hrap-text, radolan-text, usage-text}
-use Rattle.gate_text.proofs.StoredLaws.{stored-same, answered}
+use Rattle.text.proofs.StoredLaws.{stored-same, answered}
 use borrow.Author.Needs.{needs}
 use Rattle.gate_text.proofs.gate.gate_text.Statement.{statement}
 use Rattle.gate_text.proofs.gate.gate_text.Tie as tie

@@ -5,9 +5,9 @@ use borrow.Author.Tests.{leb-true}
 use mir.Facts.{toZ-ofZ}
 use mir.Syntax.{w64}
 use mir.Val.{SFits}
+use Rattle.text.specs.RefusedLine.{refusedLine}
 use Rattle.gate_text.specs.GateText.{answerWords}
-use Rattle.gate_text.specs.LedgerLine.{placementWords}
-use Rattle.gate_text.specs.StoredText.{columnsThere}
+use Rattle.gate_text.specs.PlacedColumns.{columnsThere}
 use borrow.Author.Needs.{needs}
 use Rattle.gate_text.proofs.gate.put_answer.Statement.{statement}
 use Rattle.gate_text.proofs.gate.put_answer.Tie as tie
@@ -48,7 +48,7 @@ same-length-3 : tie.Need-same-length-3
 same-length-3 c = search needs
 
 returns-3 : tie.Need-returns-3
-unfolding answerWords placementWords
+unfolding answerWords refusedLine
 returns-3 c = rw (c .before .before .before .before .before .placement3 .given .1) (c .before .before .put-refused .ensures .0, omega (arith, c .before .before .put-refused .ensures .1))
 
 pub put-answer-spec : {M : Type 1} → statement M

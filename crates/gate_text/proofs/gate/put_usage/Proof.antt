@@ -1,5 +1,6 @@
 -- `gate_text::gate::put_usage` meets its contract. Assumes nothing.
 use native.Mathlib.Omega.{arith}
+use Rattle.text.proofs.StoredLaws.{stored}
 use Rattle.gate_text.specs.GateText.{usageLine}
 use borrow.Author.Needs.{needs}
 use Rattle.gate_text.proofs.gate.put_usage.Statement.{statement}
@@ -16,7 +17,7 @@ same-length c = search needs
 
 returns : tie.Need-returns
 unfolding usageLine
-returns c = (record { the-end = c .before .before .put-word .ensures .0; the-bytes = c .before .before .put-word .ensures .1 }, omega (arith, c .before .before .put-word .ensures .0))
+returns c = (stored (c .before .before .put-word .ensures .0) (c .before .before .put-word .ensures .1), omega (arith, c .before .before .put-word .ensures .0))
 
 pub put-usage-spec : {M : Type 1} → statement M
 put-usage-spec =

@@ -2,9 +2,9 @@
 use mathlib.Core.Path.{_∙_}
 use native.Mathlib.Omega.{arith}
 use native.Mathlib.Nat.{mod-lt}
-use Rattle.gate_text.proofs.LedgerHead.{good-head, ledger-line-is}
+use Rattle.gate_text.proofs.LedgerHead.{good-head, ledger-line-is, placement-line}
 use Rattle.gate_text.proofs.PlacedColumns.{placed-columns}
-use Rattle.gate_text.proofs.StoredLaws.{stored-length, stored-same, stored-next, placement-line, answered}
+use Rattle.text.proofs.StoredLaws.{stored-length, stored-same, stored-next, answered}
 use borrow.Author.Needs.{needs}
 use Rattle.gate_text.proofs.ledger.ledger_line.Statement.{statement}
 use Rattle.gate_text.proofs.ledger.ledger_line.Tie as tie
@@ -58,7 +58,7 @@ same-length : tie.Need-same-length
 same-length c = search needs
 
 returns : tie.Need-returns
-returns c = answered (stored-same (placement-line _ _ _ ∙ ledger-line-is _ _ (c .before .before .before .before .before .before .before .before .before .before .before .before .before .before .before .before .before .before .head-in .ensures) (c .before .before .before .before .before .before .before .before .before .before .before .before .before .before .azimuth-in .ensures) (c .before .before .before .before .before .before .before .before .before .before .before .value-in .ensures) (c .before .before .before .before .before .before .before .before .before .before .quality-in .ensures) (c .before .before .before .before .columns-of .ensures) (c .before .before .before .place .ensures .0)) (stored-next _ _ (c .before .before .before .before .before .before .before .before .put-gate .ensures .0) (c .before .before .put-place .ensures .0))) (omega (arith, c .before .before .before .before .before .before .before .before .put-gate .ensures .1, c .before .before .put-place .ensures .1))
+returns c = answered (stored-same (placement-line _ _ _ ∙ ledger-line-is _ _ (c .before .before .before .before .before .before .before .before .before .before .before .before .before .before .before .before .before .before .head-in .ensures) (c .before .before .before .before .before .before .before .before .before .before .before .before .before .before .azimuth-in .ensures) (c .before .before .before .before .before .before .before .before .before .before .before .value-in .ensures) (c .before .before .before .before .before .before .before .before .before .before .quality-in .ensures) (c .before .before .before .before .columns-of .ensures) (c .before .before .before .place .ensures .0)) (stored-next (c .before .before .before .before .before .before .before .before .put-gate .ensures .0) (c .before .before .put-place .ensures .0))) (omega (arith, c .before .before .before .before .before .before .before .before .put-gate .ensures .1, c .before .before .put-place .ensures .1))
 
 pub ledger-line-spec : {M : Type 1} → statement M
 ledger-line-spec =

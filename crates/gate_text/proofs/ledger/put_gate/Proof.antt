@@ -1,5 +1,5 @@
 -- `gate_text::ledger::put_gate` meets its contract. Assumes nothing.
-use Rattle.gate_text.proofs.StoredLaws.{spaced-last, spaced-before}
+use Rattle.text.proofs.StoredLaws.{spaced-last, spaced-before}
 use borrow.Author.Needs.{needs}
 use Rattle.gate_text.proofs.ledger.put_gate.Statement.{statement}
 use Rattle.gate_text.proofs.ledger.put_gate.Tie as tie

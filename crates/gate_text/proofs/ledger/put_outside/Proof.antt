@@ -2,7 +2,7 @@
 use native.Mathlib.Omega.{arith}
 use mir.Facts.{toZ-ofZ}
 use Rattle.gate_text.specs.LedgerLine.{placementWords, outsideWord}
-use Rattle.gate_text.proofs.StoredLaws.{line-last, line-before}
+use Rattle.text.proofs.StoredLaws.{line-last, line-before}
 use borrow.Author.Needs.{needs}
 use Rattle.gate_text.proofs.ledger.put_outside.Statement.{statement}
 use Rattle.gate_text.proofs.ledger.put_outside.Tie as tie

@@ -1,11 +1,13 @@
 -- `gate_text::ledger::put_place` meets its contract. Assumes nothing.
 use mathlib.Core.Path.{sym, ap, _∙_}
+use native.Mathlib.Omega.{arith}
 use borrow.Author.Tests.{leb-true}
 use mir.Facts.{toZ-ofZ}
 use mir.Syntax.{w64}
 use mir.Val.{SFits}
+use Rattle.text.specs.RefusedLine.{refusedLine}
 use Rattle.gate_text.specs.LedgerLine.{placementWords}
-use Rattle.gate_text.specs.StoredText.{columnsThere}
+use Rattle.gate_text.specs.PlacedColumns.{columnsThere}
 use borrow.Author.Needs.{needs}
 use Rattle.gate_text.proofs.ledger.put_place.Statement.{statement}
 use Rattle.gate_text.proofs.ledger.put_place.Tie as tie
@@ -46,8 +48,8 @@ same-length-3 : tie.Need-same-length-3
 same-length-3 c = search needs
 
 returns-3 : tie.Need-returns-3
-unfolding placementWords
-returns-3 c = rw (c .before .before .before .before .before .placement3 .given .1) (c .before .before .put-refused .ensures .0, c .before .before .put-refused .ensures .1)
+unfolding placementWords refusedLine
+returns-3 c = rw (c .before .before .before .before .before .placement3 .given .1) (c .before .before .put-refused .ensures .0, omega (arith, c .before .before .put-refused .ensures .1))
 
 pub put-place-spec : {M : Type 1} → statement M
 put-place-spec =

@@ -1,7 +1,7 @@
 -- `sheet_text::lines::put_cell` meets its contract. Assumes nothing.
 use native.Mathlib.Omega.{arith}
 use Rattle.sheet_text.specs.SheetText.{cellLine}
-use Rattle.sheet_text.proofs.StoredText.{stored-line-more, stored-line-last}
+use Rattle.text.proofs.StoredLaws.{line-last, line-before}
 use borrow.Author.Needs.{needs}
 use Rattle.sheet_text.proofs.lines.put_cell.Statement.{statement}
 use Rattle.sheet_text.proofs.lines.put_cell.Tie as tie
@@ -38,8 +38,8 @@ returns c =
     let c′ = c .before .before .before .before .before .before .before .before .before .before .put-number3 .ensures in
     let d = c .before .before .before .before .before .before .put-number4 .ensures in
     let e = c .before .before .put-number5 .ensures in (
-      omega (arith, a .0, b .0, c′ .0, d .0, e .0),
-      stored-line-more _ _ _ (a .1) (stored-line-more _ _ _ (b .1) (stored-line-more _ _ _ (c′ .1) (stored-line-more _ _ _ (d .1) (stored-line-last _ (e .1))))),
+      omega (arith, a .1, b .1, c′ .1, d .1, e .1),
+      line-before _ _ _ (a .0) (line-before _ _ _ (b .0) (line-before _ _ _ (c′ .0) (line-before _ _ _ (d .0) (line-last _ (e .0))))),
     )
 
 pub put-cell-spec : {M : Type 1} → statement M

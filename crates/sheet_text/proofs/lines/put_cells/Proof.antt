@@ -4,9 +4,9 @@ use Prim.Native.Nat.{_+_, _*_, _-_, _≤_}
 use native.Mathlib.Nat.{le-antisymm}
 use native.Mathlib.Omega.{arith}
 use lib.ListN.{length}
+use Rattle.text.specs.StoredText.{Stored}
+use Rattle.text.proofs.StoredLaws.{stored-none, stored-same, stored-next}
 use Rattle.sheet_text.specs.SheetText.{cellLines}
-use Rattle.sheet_text.specs.SheetRoom.{Stored}
-use Rattle.sheet_text.proofs.StoredText.{stored-none, stored-as, stored-then}
 use Rattle.sheet_text.proofs.CellLines.{cell-empty, cell-counted}
 use borrow.Author.Needs.{needs}
 use Rattle.sheet_text.proofs.lines.put_cells.Statement.{statement}
@@ -14,14 +14,14 @@ use Rattle.sheet_text.proofs.lines.put_cells.Tie as tie
 
 abbrev Inv-loop : tie.InvT-loop
 Inv-loop page₀ at columns counts means qualities next₀ cell₀ page next cell =
-    (cell ≤ length counts) × (length page ≡ length page₀) × (next ≤ at + 105 * cell) × Stored page₀ page at next (cellLines columns counts means qualities cell)
+    (cell ≤ length counts) × (length page ≡ length page₀) × (next ≤ at + 105 * cell) × Stored page₀ at (cellLines columns counts means qualities cell) next page
 
 abbrev μ-loop : tie.MeasureT-loop
 μ-loop page₀ at columns counts means qualities next₀ cell₀ page next cell = length counts - cell
 
 loop-holds : tie.Need-loop-holds Inv-loop μ-loop
 unfolding cellLines
-loop-holds c = (search needs, search needs, search needs, stored-none _ _)
+loop-holds c = (search needs, search needs, search needs, stored-none)
 
 mul-if1 : tie.Need-mul-if1 Inv-loop μ-loop
 mul-if1 c = search needs
@@ -38,7 +38,7 @@ loop-less c = search needs
 loop-again : tie.Need-loop-again Inv-loop μ-loop
 loop-again c =
     let loop = c .before .before .before in
-    (search needs, search needs, search needs, stored-as (cell-empty _ _ _ _ (loop .loop .cell) (c .if1 .taken)) (loop .loop .inv .3))
+    (search needs, search needs, search needs, stored-same (cell-empty _ _ _ _ (loop .loop .cell) (c .if1 .taken)) (loop .loop .inv .3))
 
 mul-put-cell : tie.Need-mul-put-cell Inv-loop μ-loop
 mul-put-cell c = search needs
@@ -72,7 +72,7 @@ loop-again-2 c =
       search needs,
       search needs,
       omega (arith, put .put-cell .ensures .0, loop .loop .inv .2),
-      stored-as (cell-counted _ _ _ _ (loop .loop .cell) (turn .if1 .left)) (stored-then (loop .loop .inv .3) (put .put-cell .ensures .1)),
+      stored-same (cell-counted _ _ _ _ (loop .loop .cell) (turn .if1 .left)) (stored-next (loop .loop .inv .3) (put .put-cell .ensures .1)),
     )
 
 same-length : tie.Need-same-length Inv-loop μ-loop

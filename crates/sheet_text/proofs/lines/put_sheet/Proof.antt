@@ -1,7 +1,7 @@
 -- `sheet_text::lines::put_sheet` meets its contract. Assumes nothing.
 use borrow.Author.Needs.{needs}
 use Rattle.sheet_text.specs.SheetText.{sheetLines}
-use Rattle.sheet_text.proofs.StoredText.{stored-then}
+use Rattle.text.proofs.StoredLaws.{stored-next}
 use Rattle.sheet_text.proofs.lines.put_sheet.Statement.{statement}
 use Rattle.sheet_text.proofs.lines.put_sheet.Tie as tie
 
@@ -23,7 +23,7 @@ returns c =
     let cells = c .before .before in
     let top = cells .before .before .before .before in
     let counted = top .before .before in
-    (cells .put-cells .ensures .0, stored-then (rw (counted .total .ensures) at (top .put-top .ensures .1)) (cells .put-cells .ensures .1))
+    (cells .put-cells .ensures .0, stored-next (rw (counted .total .ensures) at (top .put-top .ensures .1)) (cells .put-cells .ensures .1))
 
 pub put-sheet-spec : {M : Type 1} → statement M
 put-sheet-spec =

@@ -2,7 +2,7 @@
 use native.Mathlib.Omega.{arith}
 use Rattle.text.specs.DecimalText.{lineOf}
 use Rattle.sheet_text.specs.SheetText.{tooLarge}
-use Rattle.sheet_text.proofs.StoredText.{stored}
+use Rattle.text.proofs.StoredLaws.{stored}
 use borrow.Author.Needs.{needs}
 use Rattle.sheet_text.proofs.lines.put_too_large.Statement.{statement}
 use Rattle.sheet_text.proofs.lines.put_too_large.Tie as tie

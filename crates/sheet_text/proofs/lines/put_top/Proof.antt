@@ -1,7 +1,7 @@
 -- `sheet_text::lines::put_top` meets its contract. Assumes nothing.
 use native.Mathlib.Omega.{arith}
 use Rattle.sheet_text.specs.SheetText.{gridWord, gatesWord, placedWord, topLines}
-use Rattle.sheet_text.proofs.StoredText.{stored, stored-then, stored-line-more, stored-line-last}
+use Rattle.text.proofs.StoredLaws.{stored, stored-next, line-last, line-before}
 use borrow.Author.Needs.{needs}
 use Rattle.sheet_text.proofs.lines.put_top.Statement.{statement}
 use Rattle.sheet_text.proofs.lines.put_top.Tie as tie
@@ -49,8 +49,8 @@ returns c =
     let e = c .before .before .before .before .before .before .before .before .before .before .before .put-number3 .ensures in
     let f = c .before .before .before .before .before .before .put-word3 .ensures in
     let g = c .before .before .put-number4 .ensures in (
-      omega (arith, a .0, b .0, c′ .0, d .0, e .0, f .0, g .0),
-      stored-then (stored-line-more gridWord _ _ (stored (a .0) (a .1)) (stored-line-more _ _ _ (b .1) (stored-line-last _ (c′ .1)))) (stored-line-more gatesWord _ _ (stored (d .0) (d .1)) (stored-line-more _ _ _ (e .1) (stored-line-more placedWord _ _ (stored (f .0) (f .1)) (stored-line-last _ (g .1))))),
+      omega (arith, a .0, b .1, c′ .1, d .0, e .1, f .0, g .1),
+      stored-next (line-before gridWord _ _ (stored (a .0) (a .1)) (line-before _ _ _ (b .0) (line-last _ (c′ .0)))) (line-before gatesWord _ _ (stored (d .0) (d .1)) (line-before _ _ _ (e .0) (line-before placedWord _ _ (stored (f .0) (f .1)) (line-last _ (g .0))))),
     )
 
 pub put-top-spec : {M : Type 1} → statement M

@@ -1,5 +1,6 @@
 -- `sheet_text::page::sheet` meets its contract. Assumes nothing.
 use mathlib.Core.Path.{sym, _∙_}
+use native.Mathlib.Omega.{arith}
 use Rattle.sheet_text.proofs.SheetAnswers.{bytes-too-many, is-refused, is-good, is-sized, printed}
 use borrow.Author.Needs.{needs}
 use Rattle.sheet_text.proofs.page.sheet.Statement.{statement}
@@ -40,8 +41,8 @@ same-length-2 c = search needs
 returns-2 : tie.Need-returns-2
 returns-2 c =
     let put = c .before .before .put-refused .ensures in
-    let text = printed (put .0) (c .before .before .before .before .before .before .before .before .before .before .before .pre) (is-refused _ _ (c .before .before .before .before .before .before .before .before .if1 .left) (sym (c .before .before .before .before .before .number .given .1) ∙ c .before .before .before .before .before .before .before .read-head .ensures)) (put .1) in
-    (text .the-length, (put .0, text .the-page))
+    let text = printed (omega (arith, put .1)) (c .before .before .before .before .before .before .before .before .before .before .before .pre) (is-refused _ _ (c .before .before .before .before .before .before .before .before .if1 .left) (sym (c .before .before .before .before .before .number .given .1) ∙ c .before .before .before .before .before .before .before .read-head .ensures)) (put .0) in
+    (text .the-length, (omega (arith, put .1), text .the-page))
 
 same-length-3 : tie.Need-same-length-3
 same-length-3 c = search needs

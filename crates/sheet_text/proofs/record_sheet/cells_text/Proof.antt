@@ -2,7 +2,7 @@
 use mathlib.Core.Path.{sym, _∙_}
 use native.Mathlib.Omega.{arith}
 use Rattle.sheet_text.proofs.GoodRecord.{ReadLists, Cells, grid-good, columns-least, read-lists, remapped, counts-length, means-length, cell-qualities-length, is-sheet}
-use Rattle.sheet_text.proofs.StoredText.{stored-as}
+use Rattle.text.proofs.StoredLaws.{stored-same}
 use borrow.Author.Needs.{needs}
 use Rattle.sheet_text.proofs.record_sheet.cells_text.Statement.{statement}
 use Rattle.sheet_text.proofs.record_sheet.cells_text.Tie as tie
@@ -84,7 +84,7 @@ returns c =
     let put = c .before .before in
     let remap = c .before .before .before .before .before .before .before .before .before .before .before .before .before .before .before .before .before .before .before .before .before in (
       put .put-sheet .ensures .0,
-      stored-as (is-sheet (given-remap remap .pre .0) (cells-done remap))
+      stored-same (is-sheet (given-remap remap .pre .0) (cells-done remap))
           (rw (c .before .before .before .before .before .before .before .before .window-of .ensures, c .before .before .before .before .before .before .before .gates-of .ensures) at (put .put-sheet .ensures .1)),
     )
 

@@ -6,7 +6,7 @@ use native.Mathlib.Numerals.{add-one}
 use native.Mathlib.Omega.{arith}
 use lib.ListN.{length, length-set, take}
 use lib.Seq.{sets, take-suc, take-all, length-take-le}
-use Rattle.text.proofs.SetsLaws.{sets-next}
+use Rattle.arithmetic.proofs.SetsLaws.{sets-next}
 use borrow.Author.Needs.{needs}
 use Rattle.text.proofs.decimal.put_word.Statement.{statement}
 use Rattle.text.proofs.decimal.put_word.Tie as tie

@@ -1,10 +1,10 @@
--- `gate_text::ledger::put_refused` meets its contract. Assumes nothing.
+-- `text::refused::put_refused` meets its contract. Assumes nothing.
 use native.Mathlib.Omega.{arith}
-use Rattle.gate_text.specs.LedgerLine.{placementWords, refusedWord}
-use Rattle.gate_text.proofs.StoredLaws.{line-last, line-before}
+use Rattle.text.specs.RefusedLine.{refusedWord, refusedLine}
+use Rattle.text.proofs.StoredLaws.{line-last, line-before}
 use borrow.Author.Needs.{needs}
-use Rattle.gate_text.proofs.ledger.put_refused.Statement.{statement}
-use Rattle.gate_text.proofs.ledger.put_refused.Tie as tie
+use Rattle.text.proofs.refused.put_refused.Statement.{statement}
+use Rattle.text.proofs.refused.put_refused.Tie as tie
 
 slice-aggregate-put-text : tie.Need-slice-aggregate-put-text
 slice-aggregate-put-text c = search needs
@@ -19,7 +19,7 @@ same-length : tie.Need-same-length
 same-length c = search needs
 
 returns : tie.Need-returns
-unfolding placementWords refusedWord
+unfolding refusedWord refusedLine
 returns c = (line-before _ _ _ (c .before .before .before .before .before .before .put-text .ensures) (line-last _ (c .before .before .put-number .ensures .0)), omega (arith, c .before .before .put-number .ensures .1, c .before .before .before .before .before .before .put-text .ensures .the-end))
 
 pub put-refused-spec : {M : Type 1} → statement M

@@ -1,14 +1,14 @@
--- `gate_text::fields::put_text` meets its contract. Assumes nothing.
-use Rattle.gate_text.proofs.StoredLaws.{stored-byte}
+-- `text::fields::put_text` meets its contract. Assumes nothing.
+use Rattle.text.proofs.StoredLaws.{stored-byte}
 use borrow.Author.Needs.{needs}
-use Rattle.gate_text.proofs.fields.put_text.Statement.{statement}
-use Rattle.gate_text.proofs.fields.put_text.Tie as tie
+use Rattle.text.proofs.fields.put_text.Statement.{statement}
+use Rattle.text.proofs.fields.put_text.Tie as tie
 
 put-word-requires : tie.Need-put-word-requires
 put-word-requires c κs = search needs
 
-slice-write-line : tie.Need-slice-write-line
-slice-write-line c = search needs
+slice-write-buffer : tie.Need-slice-write-buffer
+slice-write-buffer c = search needs
 
 add-result : tie.Need-add-result
 add-result c = search needs
@@ -21,4 +21,4 @@ returns c = stored-byte (c .before .before .before .before .before .before .args
 
 pub put-text-spec : {M : Type 1} → statement M
 put-text-spec =
-    tie.close (tie.spec put-word-requires slice-write-line add-result same-length returns)
+    tie.close (tie.spec put-word-requires slice-write-buffer add-result same-length returns)

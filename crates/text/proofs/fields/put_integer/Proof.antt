@@ -1,17 +1,17 @@
--- `gate_text::fields::put_integer` meets its contract. Assumes nothing.
+-- `text::fields::put_integer` meets its contract. Assumes nothing.
 use native.Mathlib.Omega.{arith}
 use mir.Facts.{toZ-ofZ}
 use Rattle.text.specs.DecimalText.{signedDecimalOf}
-use Rattle.gate_text.proofs.StoredLaws.{stored-byte}
+use Rattle.text.proofs.StoredLaws.{stored-byte}
 use borrow.Author.Needs.{needs}
-use Rattle.gate_text.proofs.fields.put_integer.Statement.{statement}
-use Rattle.gate_text.proofs.fields.put_integer.Tie as tie
+use Rattle.text.proofs.fields.put_integer.Statement.{statement}
+use Rattle.text.proofs.fields.put_integer.Tie as tie
 
 put-signed-requires : tie.Need-put-signed-requires
 put-signed-requires c κs = search needs
 
-slice-write-line : tie.Need-slice-write-line
-slice-write-line c = search needs
+slice-write-buffer : tie.Need-slice-write-buffer
+slice-write-buffer c = search needs
 
 add-result : tie.Need-add-result
 add-result c = search needs
@@ -24,4 +24,4 @@ returns c = let same = toZ-ofZ (c .before .before .before .before .before .fits 
 
 pub put-integer-spec : {M : Type 1} → statement M
 put-integer-spec =
-    tie.close (tie.spec put-signed-requires slice-write-line add-result same-length returns)
+    tie.close (tie.spec put-signed-requires slice-write-buffer add-result same-length returns)

@@ -1,10 +1,11 @@
 -- Lists stored one behind the other in a buffer. Assumes nothing.
 use mathlib.Core.Path.{_≡_, ap, _∙_}
 use mathlib.Core.List.{List, [], _∷_, _++_}
-use Prim.Native.Nat.{ℕ, suc, _+_}
+use Prim.Native.Nat.{ℕ, suc, _+_, _≤_}
+use native.Mathlib.Nat.{zero-add}
 use native.Mathlib.Omega.{arith}
-use lib.ListN.{length, set}
-use lib.Seq.{sets}
+use lib.ListN.{length, set, drop}
+use lib.Seq.{sets, sets-eq}
 
 -- a second list right behind the first
 pub sets-append : (l : List ℕ) (i : ℕ) (xs ys : List ℕ) → sets (sets l i xs) (i + length xs) ys ≡ sets l i (xs ++ ys)
@@ -15,3 +16,7 @@ sets-append l i (x ∷ xs) ys =
 -- one element more
 pub sets-next : (l l′ : List ℕ) (i k : ℕ) (xs : List ℕ) (y : ℕ) → k ≡ i + length xs → l′ ≡ sets l i xs → set l′ k y ≡ sets l i (xs ++ y ∷ [])
 sets-next l l′ i k xs y p q = rw (p, q) (sets-append l i xs (y ∷ []))
+
+-- a list stored from the start on
+pub sets-start : (l xs : List ℕ) → length xs ≤ length l → sets l 0 xs ≡ xs ++ drop (length xs) l
+sets-start l xs h = sets-eq xs l 0 (omega arith) ∙ ap (λ (k : ℕ). xs ++ drop k l) (zero-add (length xs))

@@ -1,16 +1,16 @@
--- `gate_text::fields::put_number` meets its contract. Assumes nothing.
+-- `text::fields::put_number` meets its contract. Assumes nothing.
 use native.Mathlib.Omega.{arith}
 use Rattle.text.specs.DecimalText.{decimalOf}
-use Rattle.gate_text.proofs.StoredLaws.{stored-byte}
+use Rattle.text.proofs.StoredLaws.{stored-byte}
 use borrow.Author.Needs.{needs}
-use Rattle.gate_text.proofs.fields.put_number.Statement.{statement}
-use Rattle.gate_text.proofs.fields.put_number.Tie as tie
+use Rattle.text.proofs.fields.put_number.Statement.{statement}
+use Rattle.text.proofs.fields.put_number.Tie as tie
 
 put-decimal-requires : tie.Need-put-decimal-requires
 put-decimal-requires c κs = search needs
 
-slice-write-line : tie.Need-slice-write-line
-slice-write-line c = search needs
+slice-write-buffer : tie.Need-slice-write-buffer
+slice-write-buffer c = search needs
 
 add-result : tie.Need-add-result
 add-result c = search needs
@@ -23,4 +23,4 @@ returns c = (stored-byte (decimalOf (c .before .before .before .before .before .
 
 pub put-number-spec : {M : Type 1} → statement M
 put-number-spec =
-    tie.close (tie.spec put-decimal-requires slice-write-line add-result same-length returns)
+    tie.close (tie.spec put-decimal-requires slice-write-buffer add-result same-length returns)

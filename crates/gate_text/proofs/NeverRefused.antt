@@ -1,0 +1,48 @@
+-- A gate of a good record is never refused, so that no line of a ledger is that of a refused gate. Assumes nothing.
+use mathlib.Core.Bool.{Bool, true, false, cond}
+use mathlib.Core.List.{List}
+use mathlib.Core.Path.{_≡_, sym, _∙_}
+use Prim.Native.Nat.{ℕ}
+use native.Mathlib.Omega.{arith}
+use Rattle.placement.specs.declared.gate.Placement.the-variants.{Inside, Outside, Refused}
+use Rattle.placement.specs.declared.grid.Grid.{Grid}
+use Rattle.placement.specs.declared.grid.Window.{Window}
+use Rattle.placement.specs.declared.position.Position.{Position}
+use Rattle.placement.specs.declared.position.Site.{Site}
+use Rattle.placement.specs.Gate.{unlessRefused, placementOf}
+use Rattle.placement.specs.Position.{positionOf}
+use Rattle.placement.specs.Refusal.{gateRefusal}
+use Rattle.placement.specs.Sphere.{sphereOf}
+use Rattle.placement.specs.Window.{windowOf, inWindow, located}
+use Rattle.placement.proofs.Accepted.{range-bounds}
+use Rattle.remap.proofs.AcceptedRemap.{gate-accepted}
+use Rattle.remap.proofs.AcceptedScan.{accepted-numbers}
+use Rattle.scan_record.specs.RecordPlaces.{headIn, azimuthsIn}
+use Rattle.scan_record.specs.RecordRefusal.{headRefusal}
+use Rattle.scan_record.proofs.AcceptedRecord.{accepted-record}
+use Rattle.gate_text.specs.LedgerLine.{rayOf, gateOf, azimuthOf, rangeOf}
+
+-- a place in a grid or outside it is no refusal
+located-never : (window : Window) (at : Position) (number : ℕ) → located window at ≡ Refused number → ⊥
+unfolding located
+located-never window at number e = go (inWindow window at) _ e
+  where
+    go : (t : Bool) (cell : ℕ) → cond t (Inside cell (at .x) (at .y)) (Outside (at .x) (at .y)) ≡ Refused number → ⊥
+    go true cell f = let z : _≡_ {A = ℕ} 0 1 = cc in absurd (omega arith)
+    go false cell f = let z : _≡_ {A = ℕ} 0 1 = cc in absurd (omega arith)
+
+accepted-located : (site : Site) (grid : Grid) (azimuth range : ℕ) → gateRefusal site grid azimuth range ≡ 0 → placementOf site grid azimuth range ≡ located (windowOf grid) (positionOf (sphereOf grid) site azimuth range)
+unfolding placementOf unlessRefused
+accepted-located site grid azimuth range e = rw e
+
+module _ (bytes : List ℕ) (good : headRefusal bytes ≡ 0) (k : ℕ) where
+  none-refused : gateRefusal (headIn bytes .site) (headIn bytes .grid) (azimuthOf bytes k) (rangeOf bytes k) ≡ 0
+  unfolding headRefusal rayOf gateOf azimuthOf rangeOf
+  none-refused =
+      let numbers = accepted-numbers (headIn bytes) true _ _ (accepted-record bytes true good .number) in
+      gate-accepted (headIn bytes) (azimuthsIn bytes) (range-bounds 1 1000 (headIn bytes .gates) (numbers .gates-accepted) .0) (numbers .centres-accepted) (numbers .site-accepted) (numbers .grid-accepted) (numbers .azimuths-accepted) k
+
+  -- for every k, those of the record's gates among them
+  pub never-refused : (number : ℕ) → placementOf (headIn bytes .site) (headIn bytes .grid) (azimuthOf bytes k) (rangeOf bytes k) ≡ Refused number → ⊥
+  never-refused number e =
+      located-never _ _ number (sym (accepted-located (headIn bytes .site) (headIn bytes .grid) (azimuthOf bytes k) (rangeOf bytes k) none-refused) ∙ e)
