@@ -2,7 +2,6 @@
 use crate::gates::Weighting;
 use crate::gates::weigh;
 ghost use mathlib.Core.Path.{_≡_};
-ghost use Prim.Native.Nat.{_<_, _+_};
 ghost use lib.ListN.{length, replicate};
 ghost use Rattle.arithmetic.specs.Places.{table};
 ghost use Rattle.remap.specs.Tally.{countOf, qualitySumOf, valueSumOf};
