@@ -1,7 +1,7 @@
 //! Times of a whole scan by the library, of the same gates by single calls, of the plain program, and of numpy with PROJ.
 //!
-//! Every round works the first three one after the other, and the best round of each counts. Nothing is asserted about speed; before
-//! anything is timed, the ledgers and cells have to be the same.
+//! Every round works the whole scan and the plain program, every tenth the single calls too, and the best round of each counts. Nothing is
+//! asserted about speed; before anything is timed, the ledgers and cells have to be the same.
 
 mod measure;
 mod pipeline;

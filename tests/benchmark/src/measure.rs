@@ -12,10 +12,12 @@ use crate::pipeline::{self, Pipeline};
 use crate::plain;
 use crate::scene::{Lists, Scene};
 
-const LEAST_ROUNDS: u32 = 5;
-const MOST_ROUNDS: u32 = 200;
+const LEAST_ROUNDS: u32 = 20;
+const MOST_ROUNDS: u32 = 500;
 /// How long one scene is worked, once it has had the least rounds.
-const PATIENCE: Duration = Duration::from_secs(6);
+const PATIENCE: Duration = Duration::from_secs(10);
+/// Single calls take many times as long as a whole scan, and come once in so many rounds.
+const ROUNDS_A_SINGLE: u32 = 10;
 
 /// Nanoseconds a gate.
 pub struct Times {
@@ -99,18 +101,25 @@ fn timed(work: impl FnOnce() -> u32) -> f64 {
     start.elapsed().as_nanos() as f64
 }
 
+/// Nanoseconds of the whole scan, of single calls and of the plain program, in one round.
+fn round(tables: &Tables, scene: &Scene, lists: &mut [Lists; 2], with_single: bool) -> [f64; 3] {
+    let [first, second] = black_box(lists);
+    let whole = timed(|| whole_scan(scene, first));
+    let plain = timed(|| plain_scan(tables, scene, second));
+    let single = match with_single {
+        true => timed(|| single_calls(scene, &mut second.ledger)),
+        false => f64::INFINITY,
+    };
+    [whole, single, plain]
+}
+
 pub fn measure(tables: &Tables, scene: &Scene, pipeline: Option<&Pipeline>) -> Times {
-    let mut first = checked(tables, scene);
-    let pipeline = pipeline.and_then(|found| found.measure(scene, &first.ledger));
-    let mut second = Lists::of(scene);
+    let mut lists = [checked(tables, scene), Lists::of(scene)];
+    let pipeline = pipeline.and_then(|found| found.measure(scene, &lists[0].ledger));
     let (mut best, mut rounds, start) = ([f64::INFINITY; 3], 0, Instant::now());
     while rounds < LEAST_ROUNDS || (rounds < MOST_ROUNDS && start.elapsed() < PATIENCE) {
-        let scene = black_box(scene);
-        let took = [
-            timed(|| whole_scan(scene, black_box(&mut first))),
-            timed(|| single_calls(scene, black_box(&mut second.ledger))),
-            timed(|| plain_scan(tables, scene, black_box(&mut second))),
-        ];
+        let with_single = rounds % ROUNDS_A_SINGLE == 0;
+        let took = round(tables, black_box(scene), &mut lists, with_single);
         for (least, now) in best.iter_mut().zip(took) {
             *least = least.min(now);
         }
