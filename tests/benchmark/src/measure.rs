@@ -13,7 +13,6 @@ use crate::plain;
 use crate::scene::{Lists, Scene};
 
 const LEAST_ROUNDS: u32 = 20;
-const MOST_ROUNDS: u32 = 500;
 /// How long one scene is worked, once it has had the least rounds.
 const PATIENCE: Duration = Duration::from_secs(10);
 /// Single calls take many times as long as a whole scan, and come once in so many rounds.
@@ -117,7 +116,7 @@ pub fn measure(tables: &Tables, scene: &Scene, pipeline: Option<&Pipeline>) -> T
     let mut lists = [checked(tables, scene), Lists::of(scene)];
     let pipeline = pipeline.and_then(|found| found.measure(scene, &lists[0].ledger));
     let (mut best, mut rounds, start) = ([f64::INFINITY; 3], 0, Instant::now());
-    while rounds < LEAST_ROUNDS || (rounds < MOST_ROUNDS && start.elapsed() < PATIENCE) {
+    while rounds < LEAST_ROUNDS || start.elapsed() < PATIENCE {
         let with_single = rounds % ROUNDS_A_SINGLE == 0;
         let took = round(tables, black_box(scene), &mut lists, with_single);
         for (least, now) in best.iter_mut().zip(took) {
