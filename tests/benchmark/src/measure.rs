@@ -6,11 +6,11 @@ use std::process::exit;
 use std::time::{Duration, Instant};
 
 use plain_program::sine::Tables;
-use uldrevin::{place, remap_into, OUTSIDE};
+use uldrevin::{place, remap_into, Remapped, OUTSIDE};
 
 use crate::pipeline::{self, Pipeline};
 use crate::plain;
-use crate::scene::{Lists, Scene};
+use crate::scene::{lists_of, Scene};
 
 const LEAST_ROUNDS: u32 = 20;
 /// How long one scene is worked, once it has had the least rounds.
@@ -27,8 +27,8 @@ pub struct Times {
     pub rounds: u32,
 }
 
-fn whole_scan(scene: &Scene, lists: &mut Lists) -> u32 {
-    match remap_into(scene.head, scene.gate_lists(), lists.lent()) {
+fn whole_scan(scene: &Scene, lists: &mut Remapped) -> u32 {
+    match remap_into(scene.head, scene.gate_lists(), lists.lists()) {
         Ok(()) => 0,
         Err(refusal) => refusal.number,
     }
@@ -54,7 +54,7 @@ fn single_calls(scene: &Scene, ledger: &mut [u32]) -> u32 {
     0
 }
 
-fn plain_scan(tables: &Tables, scene: &Scene, lists: &mut Lists) -> u32 {
+fn plain_scan(tables: &Tables, scene: &Scene, lists: &mut Remapped) -> u32 {
     plain::whole_scan(tables, scene, lists).err().unwrap_or(0)
 }
 
@@ -70,8 +70,8 @@ fn same<T: PartialEq + Display>(name: &str, one: &[T], other: &[T], who: &str) {
 }
 
 /// Works all three once and compares what they give; answers the lists.
-fn checked(tables: &Tables, scene: &Scene) -> Lists {
-    let (mut whole, mut plain) = (Lists::of(scene), Lists::of(scene));
+fn checked(tables: &Tables, scene: &Scene) -> Remapped {
+    let (mut whole, mut plain) = (lists_of(scene), lists_of(scene));
     let mut ledger = vec![1; whole.ledger.len()];
     let answers = [
         whole_scan(scene, &mut whole),
@@ -101,7 +101,7 @@ fn timed(work: impl FnOnce() -> u32) -> f64 {
 }
 
 /// Nanoseconds of the whole scan, of single calls and of the plain program, in one round.
-fn round(tables: &Tables, scene: &Scene, lists: &mut [Lists; 2], with_single: bool) -> [f64; 3] {
+fn round(tables: &Tables, scene: &Scene, lists: &mut [Remapped; 2], with_single: bool) -> [f64; 3] {
     let [first, second] = black_box(lists);
     let whole = timed(|| whole_scan(scene, first));
     let plain = timed(|| plain_scan(tables, scene, second));
@@ -113,7 +113,7 @@ fn round(tables: &Tables, scene: &Scene, lists: &mut [Lists; 2], with_single: bo
 }
 
 pub fn measure(tables: &Tables, scene: &Scene, pipeline: Option<&Pipeline>) -> Times {
-    let mut lists = [checked(tables, scene), Lists::of(scene)];
+    let mut lists = [checked(tables, scene), lists_of(scene)];
     let pipeline = pipeline.and_then(|found| found.measure(scene, &lists[0].ledger));
     let (mut best, mut rounds, start) = ([f64::INFINITY; 3], 0, Instant::now());
     while rounds < LEAST_ROUNDS || start.elapsed() < PATIENCE {

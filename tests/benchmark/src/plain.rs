@@ -3,10 +3,11 @@
 use at_scale::library::from_head;
 use plain_program::scan::{remap, Given, Lent};
 use plain_program::sine::Tables;
+use uldrevin::Remapped;
 
-use crate::scene::{Lists, Scene};
+use crate::scene::Scene;
 
-pub fn whole_scan(tables: &Tables, scene: &Scene, lists: &mut Lists) -> Result<(), u32> {
+pub fn whole_scan(tables: &Tables, scene: &Scene, lists: &mut Remapped) -> Result<(), u32> {
     let given = Given {
         azimuths: &scene.azimuths,
         values: &scene.values,

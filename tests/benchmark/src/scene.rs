@@ -1,7 +1,7 @@
 //! The scans that are measured: one site and one grid, more or fewer gates.
 
 use uldrevin::{
-    place, CellLists, GateLists, Grid, HrapGrid, RadolanGrid, ScanHead, Site, Weighting,
+    place, GateLists, Grid, HrapGrid, RadolanGrid, Remapped, ScanHead, Site, Weighting,
 };
 
 const MESH_SIDE: i64 = 476_250;
@@ -24,38 +24,16 @@ impl Scene {
     }
 }
 
-/// The six lists of a scene.
-pub struct Lists {
-    pub ledger: Vec<u32>,
-    pub counts: Vec<u32>,
-    pub quality_sums: Vec<u32>,
-    pub value_sums: Vec<u64>,
-    pub means: Vec<u16>,
-    pub cell_qualities: Vec<u8>,
-}
-
-impl Lists {
-    pub fn of(scene: &Scene) -> Lists {
-        let (gates, cells) = (scene.head.all_gates(), scene.head.all_cells());
-        Lists {
-            ledger: vec![1; gates],
-            counts: vec![1; cells],
-            quality_sums: vec![1; cells],
-            value_sums: vec![1; cells],
-            means: vec![1; cells],
-            cell_qualities: vec![1; cells],
-        }
-    }
-
-    pub fn lent(&mut self) -> CellLists<'_> {
-        CellLists {
-            ledger: &mut self.ledger,
-            counts: &mut self.counts,
-            quality_sums: &mut self.quality_sums,
-            value_sums: &mut self.value_sums,
-            means: &mut self.means,
-            cell_qualities: &mut self.cell_qualities,
-        }
+/// Six lists of the scene's sizes, with something else in them than it gives.
+pub fn lists_of(scene: &Scene) -> Remapped {
+    let (gates, cells) = (scene.head.all_gates(), scene.head.all_cells());
+    Remapped {
+        ledger: vec![1; gates],
+        counts: vec![1; cells],
+        quality_sums: vec![1; cells],
+        value_sums: vec![1; cells],
+        means: vec![1; cells],
+        cell_qualities: vec![1; cells],
     }
 }
 

@@ -4,7 +4,7 @@ use std::hint::black_box;
 
 use uldrevin::{place, read_record_into, record_head, remap_into, sine, write_record_into};
 
-use crate::scene::{hrap, Lists, Scene};
+use crate::scene::{hrap, lists_of, Scene};
 use crate::stack::used;
 
 /// A record has at most 32,767 gates, so its scan is a smaller one.
@@ -36,14 +36,14 @@ fn print_records() {
 }
 
 pub fn print_stack(scene: &Scene) {
-    let (head, mut lists) = (scene.head, Lists::of(scene));
+    let (head, mut lists) = (scene.head, lists_of(scene));
     println!("Bytes of stack, the Rust wrapper's among them");
     println!();
     println!("| call | bytes |");
     println!("|---|---|");
     print_row("sine", used(|| sine(black_box(1))));
     print_row("place", used(|| place(head.site, head.grid, 5, 5)));
-    let remapped = used(|| remap_into(head, scene.gate_lists(), lists.lent()));
+    let remapped = used(|| remap_into(head, scene.gate_lists(), lists.lists()));
     print_row("remap_into", remapped);
     print_records();
 }

@@ -7,6 +7,8 @@
 //!
 //! A refusal is given as its number in document 01, the error of a `Result`.
 
+#[cfg(test)]
+mod example;
 pub mod placement;
 pub mod record;
 pub mod scan;

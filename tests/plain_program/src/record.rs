@@ -256,25 +256,7 @@ pub fn write(head: &Head, given: Given, buffer: &mut [u8]) -> Result<usize, u32>
 #[cfg(test)]
 mod tests {
     use super::*;
-
-    /// Document 01's sheet example.
-    const EXAMPLE: Head = Head {
-        site: Site {
-            latitude: 600_000,
-            longitude: -1_050_000,
-        },
-        rays: 1,
-        gates: 2,
-        first: 0,
-        spacing: 100_000,
-        grid: Grid::Hrap(HrapGrid {
-            i: 400,
-            j: 932,
-            columns: 2,
-            rows: 1,
-        }),
-        weighting: Weighting::ByQuality,
-    };
+    use crate::example::EXAMPLE;
 
     const GIVEN: Given = Given {
         azimuths: &[0],

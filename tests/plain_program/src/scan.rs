@@ -222,26 +222,7 @@ pub fn remap(tables: &Tables, head: &Head, given: Given, lent: &mut Lent) -> Res
 #[cfg(test)]
 mod tests {
     use super::*;
-    use crate::placement::HrapGrid;
-
-    /// The scan of document 01's sheet example.
-    const EXAMPLE: Head = Head {
-        site: Site {
-            latitude: 600_000,
-            longitude: -1_050_000,
-        },
-        rays: 1,
-        gates: 2,
-        first: 0,
-        spacing: 100_000,
-        grid: Grid::Hrap(HrapGrid {
-            i: 400,
-            j: 932,
-            columns: 2,
-            rows: 1,
-        }),
-        weighting: Weighting::ByQuality,
-    };
+    use crate::example::EXAMPLE;
 
     const PLAIN: Head = Head {
         weighting: Weighting::Plain,
