@@ -1,8 +1,8 @@
 /*
  * Uldrevin: radar gates to cells of the American HRAP mesh or the German RADOLAN raster, in whole numbers.
  *
- * Link with target/staticlib/libuldrevin.a or target/libuldrevin.so, which `make library` builds. Each function here is proved to
- * follow the rules ("document 01") for every argument; docs/STATEMENTS.md lists what is proved.
+ * Link with target/staticlib/libuldrevin.a or target/libuldrevin.so, which `make library` builds for x86-64 Linux. Each function here is
+ * proved to follow the rules ("document 01") for every argument; docs/STATEMENTS.md lists what is proved.
  *
  * Units. Angles are ten-thousandths of a degree, lengths are centimetres. Azimuths are clockwise from north, longitudes east positive.
  *
