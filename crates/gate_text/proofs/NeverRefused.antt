@@ -1,9 +1,11 @@
 -- A gate of a good record is never refused, so that no line of a ledger is that of a refused gate. Assumes nothing.
 use mathlib.Core.Bool.{Bool, true, false, cond}
 use mathlib.Core.List.{List}
-use mathlib.Core.Path.{_≡_, sym, _∙_}
+use mathlib.Core.Path.{_≡_, refl, sym, _∙_}
 use Prim.Native.Nat.{ℕ}
+use native.Mathlib.Nat.{mod-lt}
 use native.Mathlib.Omega.{arith}
+use Rattle.arithmetic.proofs.Places.{all-at}
 use Rattle.placement.specs.declared.gate.Placement.the-variants.{Inside, Outside, Refused}
 use Rattle.placement.specs.declared.grid.Grid.{Grid}
 use Rattle.placement.specs.declared.grid.Window.{Window}
@@ -11,7 +13,7 @@ use Rattle.placement.specs.declared.position.Position.{Position}
 use Rattle.placement.specs.declared.position.Site.{Site}
 use Rattle.placement.specs.Gate.{unlessRefused, placementOf}
 use Rattle.placement.specs.Position.{positionOf}
-use Rattle.placement.specs.Refusal.{gateRefusal}
+use Rattle.placement.specs.Refusal.{azimuthAccepted, gateRefusal}
 use Rattle.placement.specs.Sphere.{sphereOf}
 use Rattle.placement.specs.Window.{windowOf, inWindow, located}
 use Rattle.placement.proofs.Accepted.{range-bounds}
@@ -35,12 +37,19 @@ accepted-located : (site : Site) (grid : Grid) (azimuth range : ℕ) → gateRef
 unfolding placementOf unlessRefused
 accepted-located site grid azimuth range e = rw e
 
+-- past the last ray stands azimuth 0
+azimuth-zero : azimuthAccepted 0 ≡ true
+unfolding azimuthAccepted
+azimuth-zero = refl
+
 module _ (bytes : List ℕ) (good : headRefusal bytes ≡ 0) (k : ℕ) where
   none-refused : gateRefusal (headIn bytes .site) (headIn bytes .grid) (azimuthOf bytes k) (rangeOf bytes k) ≡ 0
   unfolding headRefusal rayOf gateOf azimuthOf rangeOf
   none-refused =
       let numbers = accepted-numbers (headIn bytes) true _ _ (accepted-record bytes true good .number) in
-      gate-accepted (headIn bytes) (azimuthsIn bytes) (range-bounds 1 1000 (headIn bytes .gates) (numbers .gates-accepted) .0) (numbers .centres-accepted) (numbers .site-accepted) (numbers .grid-accepted) (numbers .azimuths-accepted) k
+      gate-accepted (headIn bytes) _ (gateOf bytes k) (numbers .centres-accepted) (numbers .site-accepted) (numbers .grid-accepted)
+      (all-at azimuthAccepted (azimuthsIn bytes) azimuth-zero (numbers .azimuths-accepted) (rayOf bytes k))
+      (mod-lt k (range-bounds 1 1000 (headIn bytes .gates) (numbers .gates-accepted) .0))
 
   -- for every k, those of the record's gates among them
   pub never-refused : (number : ℕ) → placementOf (headIn bytes .site) (headIn bytes .grid) (azimuthOf bytes k) (rangeOf bytes k) ≡ Refused number → ⊥

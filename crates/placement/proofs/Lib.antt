@@ -10,3 +10,4 @@ pub mod SurveyLimits
 pub mod OtherAnswers
 pub mod GateNear
 pub mod GateCases
+pub mod StoredTable

@@ -2,6 +2,7 @@
 use mathlib.Core.List.{List}
 use Prim.Native.Nat.{ℕ, _+_, _*_, _-_, _≤_, _<_}
 use lib.ListN.{length}
+use Rattle.arithmetic.specs.Places.{table}
 use Rattle.arithmetic.specs.Magnitude.{Magnitude}
 use Rattle.placement.specs.declared.gate.Placement.{Placement}
 use Rattle.placement.specs.declared.grid.Grid.{Grid}
@@ -29,6 +30,10 @@ surveyed survey ray range =
 -- the ledger entry of a gate
 unfoldable pub surveyedEntry : Survey → ℕ → ℕ → ℕ
 surveyedEntry survey azimuth range = entryOf (surveyed survey (rayTerms azimuth) range)
+
+-- the entries of a ray's gates: gate g has its centre at first + g x spacing
+unfoldable pub surveyedRay : Survey → ℕ → ℕ → ℕ → ℕ → List ℕ
+surveyedRay survey first spacing azimuth gates = table (λ g. surveyedEntry survey azimuth (first + g * spacing)) gates
 
 -- what is known of the survey of an accepted site and grid
 pub record Surveyed (survey : Survey) : Type 0 where

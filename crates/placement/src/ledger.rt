@@ -3,9 +3,10 @@ use crate::gate::Placement;
 use crate::gate::gate_at;
 use crate::position::ray_terms;
 use crate::survey::Survey;
-ghost use Prim.Native.Nat.{_+_, _*_, _-_};
-ghost use Rattle.arithmetic.specs.Places.{Written};
-ghost use Rattle.placement.specs.Survey.{Surveyed, RaySpan, surveyedEntry};
+ghost use mathlib.Core.Path.{_≡_};
+ghost use Prim.Native.Nat.{_-_};
+ghost use lib.Seq.{sets};
+ghost use Rattle.placement.specs.Survey.{Surveyed, RaySpan, surveyedRay};
 
 const OUTSIDE: u32 = 4294967295;
 
@@ -20,7 +21,7 @@ pub fn ray_ledger(
     end: usize,
 )
     requires { ⌜ Surveyed survey × RaySpan first spacing start end (now ledger) ⌝ }
-    ensures { λ _. ⌜ Written (λ k. surveyedEntry survey azimuth (first + (k - start) * spacing)) start end (now (ledger .entry)) (now (ledger .exit)) ⌝ }
+    ensures { λ _. ⌜ now (ledger .exit) ≡ sets (now (ledger .entry)) start (surveyedRay survey first spacing azimuth (end - start)) ⌝ }
 {
     let ray = ray_terms(azimuth);
     let mut k = start;

@@ -1,7 +1,6 @@
 -- What is accepted of a scan, as bounds of its numbers; and a scan that is not refused is accepted. Assumes nothing.
 use mathlib.Core.Path.{_≡_, refl}
 use mathlib.Core.Bool.{Bool, true, false, _&&_, cond}
-use mathlib.Core.List.{List}
 use Prim.Native.Nat.{ℕ, suc}
 use native.Mathlib.Omega.{arith}
 use borrow.Author.Tests.{eqb-true, eq-eqb}
@@ -14,7 +13,8 @@ use Rattle.placement.specs.Window.{windowOf}
 use Rattle.placement.proofs.Accepted.{AcceptedSize, range-bounds, accepted-radolan, accepted-hrap}
 use Rattle.remap.specs.declared.scan.Lengths.{Lengths}
 use Rattle.remap.specs.declared.scan.ScanHead.{ScanHead}
-use Rattle.remap.specs.Remap.{refusalFor}
+use Rattle.remap.specs.Lent.{Lists}
+use Rattle.remap.specs.Remap.{Scan, lengthsOf, refusalFor}
 use Rattle.remap.specs.Scan.{centresAccepted, gatesOf, cellsOf, listsAccepted, lengthsAccepted, scanNumber, scanRefusal}
 use Rattle.remap.specs.ScanRoom.{AcceptedScan}
 
@@ -151,14 +151,14 @@ accepted-numbers head lengths azimuths qualities e =
       qualities-accepted = qualities-tested .0;
     }
 
-pub accepted-scan : (head : ScanHead) (azimuths values qualities ledger counts qualitySums valueSums means cellQualities : List ℕ) → refusalFor head azimuths values qualities ledger counts qualitySums valueSums means cellQualities ≡ 0 → AcceptedScan head azimuths values qualities ledger counts qualitySums valueSums means cellQualities
-unfolding refusalFor scanRefusal
-accepted-scan head azimuths values qualities ledger counts qualitySums valueSums means cellQualities e =
-    let numbers = accepted-numbers head _ _ _ e in
-    let gates-bounds = range-bounds 1 1000 (head .gates) (numbers .gates-accepted) in
-    let known = accepted-lengths head _ (numbers .lengths-accepted) in
+pub accepted-scan : (scan : Scan) (lists : Lists) → refusalFor scan lists ≡ 0 → AcceptedScan scan lists
+unfolding refusalFor lengthsOf scanRefusal
+accepted-scan scan lists e =
+    let numbers = accepted-numbers (scan .head) _ _ _ e in
+    let gates-bounds = range-bounds 1 1000 (scan .head .gates) (numbers .gates-accepted) in
+    let known = accepted-lengths (scan .head) _ (numbers .lengths-accepted) in
     record {
-      rays-most = range-bounds 1 720 (head .rays) (numbers .rays-accepted) .1;
+      rays-most = range-bounds 1 720 (scan .head .rays) (numbers .rays-accepted) .1;
       gates-least = gates-bounds .0;
       gates-most = gates-bounds .1;
       centres = numbers .centres-accepted;

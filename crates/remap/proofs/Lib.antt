@@ -1,4 +1,6 @@
 pub mod AcceptedScan
+pub mod RayLaws
+pub mod SetsPlaces
 pub mod ScanLedger
 pub mod TallyTurn
 pub mod TallyWidth

@@ -1,46 +1,47 @@
--- Ray after ray, the ledger's places come to hold the entries of their gates. Assumes nothing.
-use mathlib.Core.List.{List}
-use mathlib.Core.Path.{_≡_, refl, sym, ap, ap₂, _∙_}
-use Prim.Native.Nat.{ℕ, _+_, _*_, _-_, _<_, _≤_, zero-le}
-use native.Mathlib.Nat.{le-antisymm, mul-le-mul-right}
+-- Ray after ray is stored behind the one before it. Assumes nothing.
+use mathlib.Core.List.{List, [], _∷_, _++_, flatMap, map}
+use mathlib.Core.Path.{_≡_, sym, ap, _∙_}
+use Prim.Native.Nat.{ℕ, suc, _+_, _*_, _-_, _<_, _≤_}
+use native.Mathlib.Nat.{mul-le-mul-right}
+use native.Mathlib.Numerals.{add-one}
 use native.Mathlib.Omega.{arith}
-use lib.ListN.{length, getD}
-use Rattle.arithmetic.specs.Places.{Written, table}
-use Rattle.arithmetic.proofs.Floor.{small-division}
-use Rattle.arithmetic.proofs.Places.{written-ext, written-join, written-up-to, written-all}
+use lib.ListN.{length, getD, drop, drop-of-length-le}
+use lib.Seq.{sets, drop-cons}
+use Rattle.arithmetic.proofs.Places.{table-length}
+use Rattle.arithmetic.proofs.SetsLaws.{sets-append}
 use Rattle.placement.specs.declared.survey.Survey.{Survey}
-use Rattle.placement.specs.Survey.{RaySpan, surveyedEntry}
-use Rattle.remap.specs.ScanRoom.{ScanSpan, surveyedGate}
+use Rattle.placement.specs.Survey.{RaySpan, surveyedRay}
+use Rattle.remap.specs.Rays.{Ray, rayGates, allGates, regularRays}
+use Rattle.remap.specs.ScanRoom.{ScanSpan, surveyedLedger}
+
+-- the rays that are left to be written
+abbrev pub rest : Survey → ℕ → ℕ → ℕ → List ℕ → ℕ → List ℕ
+rest survey gates first spacing azimuths ray = surveyedLedger survey first spacing (regularRays gates (drop ray azimuths))
 
 module _ (survey : Survey) (gates first spacing : ℕ) (azimuths : List ℕ) where
-  -- place k of the ray's stretch is gate k mod gates of ray k div gates
-  ray-gate : (ray start k : ℕ) → start ≡ ray * gates → start ≤ k → k < start + gates → surveyedEntry survey (getD azimuths ray 0) (first + (k - start) * spacing) ≡ surveyedGate survey gates first spacing azimuths k
-  unfolding surveyedGate
-  ray-gate ray start k e h i =
-      let split : k ≡ ray * gates + (k - start) = omega arith in
-      let division = small-division ray gates (k - start) (omega arith) in
-      ap₂ (λ (r g : ℕ). surveyedEntry survey (getD azimuths r 0) (first + g * spacing))
-      (sym (rw (sym split) at (division .0)))
-      (sym (rw (sym split) at (division .1)))
+  pub next-ray : (ray start : ℕ) (before after goal : List ℕ) → ray < length azimuths → sets before start (rest survey gates first spacing azimuths ray) ≡ goal → after ≡ sets before start (surveyedRay survey first spacing (getD azimuths ray 0) (start + gates - start)) → sets after (start + gates) (rest survey gates first spacing azimuths (ray + 1)) ≡ goal
+  unfolding surveyedLedger allGates flatMap rayGates regularRays surveyedRay
+  next-ray ray start before after goal h e w =
+      let this = surveyedRay survey first spacing (getD azimuths ray 0) gates in
+      let others = rest survey gates first spacing azimuths (suc ray) in
+      let same : start + gates - start ≡ gates = omega arith in
+      rw (add-one ray, w, same)
+      (ap (λ (n : ℕ). sets (sets before start this) (start + n) others) (sym (table-length _ gates))
+      ∙ sets-append before start this others
+      ∙ (rw (drop-cons azimuths ray 0 h) at e))
 
-  pub next-ray : (ray start : ℕ) (before between after : List ℕ) → start ≡ ray * gates → Written (surveyedGate survey gates first spacing azimuths) 0 start before between → Written (λ k. surveyedEntry survey (getD azimuths ray 0) (first + (k - start) * spacing)) start (start + gates) between after → Written (surveyedGate survey gates first spacing azimuths) 0 (start + gates) before after
-  next-ray ray start before between after e v w =
-      written-join _ _ _ _ _ _ _ zero-le (omega arith) v (written-ext _ _ _ _ _ _ (λ k h i. ray-gate ray start k e h i) w)
-
-  -- after the last ray
-  pub all-rays : (ray start : ℕ) (before after : List ℕ) → Written (surveyedGate survey gates first spacing azimuths) 0 start before after → start ≡ ray * gates → ray ≤ length azimuths → length azimuths ≤ ray → length before ≡ length azimuths * gates → after ≡ table (surveyedGate survey gates first spacing azimuths) (length before)
-  all-rays ray start before after w e h i s =
-      let end : start ≡ length before = e ∙ ap (λ (n : ℕ). n * gates) (le-antisymm h i) ∙ sym s in
-      written-all _ _ _ _ (written-up-to end w) refl
+  pub all-rays : (ray start : ℕ) (after goal : List ℕ) → length azimuths ≤ ray → sets after start (rest survey gates first spacing azimuths ray) ≡ goal → after ≡ goal
+  unfolding surveyedLedger allGates flatMap regularRays
+  all-rays ray start after goal h e = rw (drop-of-length-le azimuths h) at e
 
 -- a ray's stretch lies in the ledger
 pub ray-end : (ray rays gates : ℕ) → ray < rays → ray * gates + gates ≤ rays * gates
 ray-end ray rays gates h = omega (arith, mul-le-mul-right gates h)
 
-pub ray-span : {gates first spacing : ℕ} {azimuths ledger₀ : List ℕ} (ray start : ℕ) (ledger : List ℕ) → ScanSpan gates first spacing azimuths ledger₀ → ray < length azimuths → start ≡ ray * gates → length ledger ≡ length ledger₀ → RaySpan first spacing start (start + gates) ledger
-ray-span {gates} {first} {spacing} {azimuths} ray start ledger span h e s = record {
+pub ray-span : {gates first spacing from : ℕ} {azimuths ledger₀ : List ℕ} (ray start : ℕ) (ledger : List ℕ) → ScanSpan gates first spacing from azimuths ledger₀ → ray < length azimuths → start ≡ from + ray * gates → length ledger ≡ length ledger₀ → RaySpan first spacing start (start + gates) ledger
+ray-span {gates} {first} {spacing} {from} {azimuths} ray start ledger span h e s = record {
   start-end = omega arith;
   gates-most = omega (arith, span .gates-most);
-  end-most = omega (arith, ray-end ray (length azimuths) gates h, span .ledger-length);
+  end-most = omega (arith, ray-end ray (length azimuths) gates h, span .end-most);
   ranges = λ k i. span .ranges (k - start) (omega (arith, span .gates-least));
 }

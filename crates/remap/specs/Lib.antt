@@ -1,5 +1,7 @@
 pub mod Scan
+pub mod Rays
 pub mod Gates
+pub mod Lent
 pub mod Tally
 pub mod TallyRoom
 pub mod Publish

@@ -8,7 +8,8 @@ use Rattle.placement.specs.GateCases.{GateCase, xIsZero, meshColumnOfZero, colu
 use Rattle.remap.specs.declared.gates.Weighting.{Weighting}
 use Rattle.remap.specs.declared.gates.Weighting.the-variants.{Plain, ByQuality}
 use Rattle.remap.specs.declared.scan.ScanHead.{ScanHead}
-use Rattle.remap.specs.Remap.{countsOf, meansOf, cellQualitiesOf, afterwards}
+use Rattle.remap.specs.Lent.{Lists}
+use Rattle.remap.specs.Remap.{Scan, filledLists, afterwards}
 use Rattle.remap.specs.Scan.{gatesOf, cellsOf, scanRefusal}
 
 pub data MarkedCase : Type 0 where
@@ -48,45 +49,44 @@ exampleHead latitude rays lastCentre weighting = record {
 unfoldable pub example : Weighting → ScanHead
 example weighting = exampleHead (pos 600000) 1 100000 weighting
 
-unfoldable pub exampleAzimuths : List ℕ
-exampleAzimuths = 0 ∷ []
+-- the example's lists, with these values and qualities
+unfoldable pub exampleScan : ScanHead → List ℕ → List ℕ → Scan
+exampleScan head values qualities = record { head = head; azimuths = 0 ∷ []; values = values; qualities = qualities }
 
-unfoldable pub exampleValues : List ℕ
-exampleValues = 1 ∷ 7 ∷ []
-
-unfoldable pub exampleQualities : List ℕ
-exampleQualities = 90 ∷ 10 ∷ []
+-- its own
+unfoldable pub exampleWith : ScanHead → Scan
+exampleWith head = exampleScan head (1 ∷ 7 ∷ []) (90 ∷ 10 ∷ [])
 
 -- the refusal of a scan whose lent lists have the right lengths
-unfoldable pub scanRefused : ScanHead → List ℕ → List ℕ → List ℕ → ℕ
-scanRefused head azimuths values qualities =
-    scanRefusal head azimuths qualities (record {
-      azimuths = length azimuths;
-      values = length values;
-      qualities = length qualities;
-      ledger = gatesOf head;
-      counts = cellsOf head;
-      «quality_sums» = cellsOf head;
-      «value_sums» = cellsOf head;
-      means = cellsOf head;
-      «cell_qualities» = cellsOf head;
+unfoldable pub scanRefused : Scan → ℕ
+scanRefused scan =
+    scanRefusal (scan .head) (scan .azimuths) (scan .qualities) (record {
+      azimuths = length (scan .azimuths);
+      values = length (scan .values);
+      qualities = length (scan .qualities);
+      ledger = gatesOf (scan .head);
+      counts = cellsOf (scan .head);
+      «quality_sums» = cellsOf (scan .head);
+      «value_sums» = cellsOf (scan .head);
+      means = cellsOf (scan .head);
+      «cell_qualities» = cellsOf (scan .head);
     })
 
 -- what a lent list of the two cells holds afterwards, whatever it held before: cell 0 is empty
-unfoldable pub CellsHold : Weighting → List ℕ → List ℕ → (ScanHead → List ℕ → List ℕ → List ℕ → List ℕ) → ℕ → ℕ → Type 0
-CellsHold weighting values qualities filled empty given =
-    (before : List ℕ) → afterwards (scanRefused (example weighting) exampleAzimuths values qualities) before (filled (example weighting) exampleAzimuths values qualities) ≡ empty ∷ given ∷ []
+unfoldable pub CellsHold : Scan → (Lists → List ℕ) → ℕ → ℕ → Type 0
+CellsHold scan list empty given =
+    (before : Lists) → list (afterwards (scanRefused scan) before (filledLists scan)) ≡ empty ∷ given ∷ []
 
 unfoldable pub Holds : MarkedCase → Type 0
 Holds (aGate case) = GateHolds case
-Holds (cellMean weighting values qualities mean) = CellsHold weighting values qualities meansOf 65535 mean
-Holds (cellQuality weighting values qualities quality) = CellsHold weighting values qualities cellQualitiesOf 0 quality
-Holds (cellCount weighting values qualities count) = CellsHold weighting values qualities countsOf 0 count
-Holds (scanLastCentre given number) = scanRefused (exampleHead (pos 600000) 1 given ByQuality) exampleAzimuths exampleValues exampleQualities ≡ number
-Holds (scanLatitude given number) = scanRefused (exampleHead given 1 100000 ByQuality) exampleAzimuths exampleValues exampleQualities ≡ number
-Holds (scanAzimuth given number) = scanRefused (example ByQuality) (given ∷ []) exampleValues exampleQualities ≡ number
-Holds (scanQualities values qualities number) = scanRefused (example ByQuality) exampleAzimuths values qualities ≡ number
-Holds (scanWithoutRays latitude number) = scanRefused (exampleHead latitude 0 100000 ByQuality) [] [] [] ≡ number
+Holds (cellMean weighting values qualities mean) = CellsHold (exampleScan (example weighting) values qualities) (λ lists. lists .cells .means) 65535 mean
+Holds (cellQuality weighting values qualities quality) = CellsHold (exampleScan (example weighting) values qualities) (λ lists. lists .cells .qualities) 0 quality
+Holds (cellCount weighting values qualities count) = CellsHold (exampleScan (example weighting) values qualities) (λ lists. lists .sums .counts) 0 count
+Holds (scanLastCentre given number) = scanRefused (exampleWith (exampleHead (pos 600000) 1 given ByQuality)) ≡ number
+Holds (scanLatitude given number) = scanRefused (exampleWith (exampleHead given 1 100000 ByQuality)) ≡ number
+Holds (scanAzimuth given number) = scanRefused (record { head = example ByQuality; azimuths = given ∷ []; values = 1 ∷ 7 ∷ []; qualities = 90 ∷ 10 ∷ [] }) ≡ number
+Holds (scanQualities values qualities number) = scanRefused (exampleScan (example ByQuality) values qualities) ≡ number
+Holds (scanWithoutRays latitude number) = scanRefused (record { head = exampleHead latitude 0 100000 ByQuality; azimuths = []; values = []; qualities = [] }) ≡ number
 
 unfoldable pub AllHold : List MarkedCase → Type 0
 AllHold [] = Unit {0}

@@ -2,8 +2,11 @@
 use mathlib.Core.Bool.{cond}
 use Prim.Native.Nat.{ℕ, _/_}
 use lib.Dec.{eqb, leb}
+use lib.ListN.{getD}
+use Rattle.arithmetic.specs.Places.{table}
 use Rattle.remap.specs.declared.gates.Weighting.{Weighting}
 use Rattle.remap.specs.declared.gates.Weighting.the-variants.{Plain, ByQuality}
+use Rattle.remap.specs.Lent.{Sums, Cells}
 
 -- floor(value sum / divisor), or 65,535 with a zero divisor
 unfoldable pub meanOf : ℕ → ℕ → ℕ
@@ -24,3 +27,9 @@ publishedMean valueSum divisor = cond (leb (meanOf valueSum divisor) 65533) (mea
 
 unfoldable pub publishedQuality : ℕ → ℕ → ℕ
 publishedQuality qualitySum count = cond (leb (qualityOf qualitySum count) 100) (qualityOf qualitySum count) 100
+
+unfoldable pub publishedCells : Weighting → Sums → ℕ → Cells
+publishedCells weighting sums cells = record {
+  means = table (λ c. publishedMean (getD (sums .valueSums) c 0) (divisorOf weighting (getD (sums .counts) c 0) (getD (sums .qualitySums) c 0))) cells;
+  qualities = table (λ c. publishedQuality (getD (sums .qualitySums) c 0) (getD (sums .counts) c 0)) cells;
+}

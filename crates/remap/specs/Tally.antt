@@ -4,8 +4,9 @@ use mathlib.Core.List.{List}
 use Prim.Native.Nat.{ℕ}
 use lib.Dec.{eqb}
 use lib.ListN.{length, getD}
-use Rattle.arithmetic.specs.Places.{sumTo}
+use Rattle.arithmetic.specs.Places.{table, sumTo}
 use Rattle.remap.specs.declared.gates.Weighting.{Weighting}
+use Rattle.remap.specs.Lent.{Sums}
 use Rattle.remap.specs.Gates.{isMeasured, weighed}
 
 module _ (ledger values qualities : List ℕ) where
@@ -26,3 +27,11 @@ module _ (ledger values qualities : List ℕ) where
 
   unfoldable pub valueSumOf : Weighting → ℕ → ℕ
   valueSumOf weighting cell = sumOver (weighed weighting) (length ledger) cell
+
+-- of so many cells
+unfoldable pub talliedSums : Weighting → List ℕ → List ℕ → List ℕ → ℕ → Sums
+talliedSums weighting ledger values qualities cells = record {
+  counts = table (countOf ledger values qualities) cells;
+  qualitySums = table (qualitySumOf ledger values qualities) cells;
+  valueSums = table (valueSumOf ledger values qualities weighting) cells;
+}

@@ -1,11 +1,11 @@
-// The ledger of a whole scan, one ray after the other.
+// The ledger of rays, one after the other, from a place on.
 use placement::Survey;
 use placement::ray_ledger;
 ghost use mathlib.Core.Path.{_≡_};
-ghost use lib.ListN.{length};
-ghost use Rattle.arithmetic.specs.Places.{table};
+ghost use lib.Seq.{sets};
 ghost use Rattle.placement.specs.Survey.{Surveyed};
-ghost use Rattle.remap.specs.ScanRoom.{ScanSpan, surveyedGate};
+ghost use Rattle.remap.specs.Rays.{regularRays};
+ghost use Rattle.remap.specs.ScanRoom.{ScanSpan, surveyedLedger};
 
 pub fn scan_ledger(
     survey: Survey,
@@ -14,12 +14,13 @@ pub fn scan_ledger(
     spacing: u32,
     azimuths: &[u32],
     ledger: &mut [u32],
+    from: usize,
 )
-    requires { ⌜ Surveyed survey × ScanSpan gates first spacing (now azimuths) (now ledger) ⌝ }
-    ensures { λ _. ⌜ now (ledger .exit) ≡ table (surveyedGate survey gates first spacing (now (azimuths .entry))) (length (now (ledger .entry))) ⌝ }
+    requires { ⌜ Surveyed survey × ScanSpan gates first spacing from (now azimuths) (now ledger) ⌝ }
+    ensures { λ _. ⌜ now (ledger .exit) ≡ sets (now (ledger .entry)) from (surveyedLedger survey first spacing (regularRays gates (now (azimuths .entry)))) ⌝ }
 {
     let step = gates as usize;
-    let mut start = 0;
+    let mut start = from;
     let mut ray = 0;
     while ray < azimuths.len() {
         ray_ledger(

@@ -3,7 +3,9 @@ use crate::gates::Weighting;
 ghost use mathlib.Core.Path.{_≡_};
 ghost use lib.ListN.{length, getD};
 ghost use Rattle.arithmetic.specs.Places.{table};
-ghost use Rattle.remap.specs.Publish.{divisorOf, publishedMean, publishedQuality};
+ghost use Rattle.remap.specs.Publish.{divisorOf, publishedMean, publishedQuality, publishedCells};
+ghost use Rattle.remap.specs.Lent.{sumsIn, cellsIn, lentCells};
+ghost use Rattle.remap.specs.TallyRoom.{Publishable};
 
 // Means and qualities of all cells, of any counts and sums.
 pub fn publish(
@@ -14,9 +16,8 @@ pub fn publish(
     means: &mut [u16],
     cell_qualities: &mut [u8],
 )
-    requires { ⌜ (length (now counts) ≡ length (now means)) × (length (now «quality_sums») ≡ length (now means)) × (length (now «value_sums») ≡ length (now means)) × (length (now «cell_qualities») ≡ length (now means)) ⌝ }
-    ensures { λ _. ⌜ now (means .exit) ≡ table (λ c. publishedMean (getD (now («value_sums» .entry)) c 0) (divisorOf weighting (getD (now (counts .entry)) c 0) (getD (now («quality_sums» .entry)) c 0))) (length (now (means .entry))) ⌝ }
-    ensures { λ _. ⌜ now («cell_qualities» .exit) ≡ table (λ c. publishedQuality (getD (now («quality_sums» .entry)) c 0) (getD (now (counts .entry)) c 0)) (length (now («cell_qualities» .entry))) ⌝ }
+    requires { ⌜ Publishable (sumsIn counts «quality_sums» «value_sums») (cellsIn means «cell_qualities») ⌝ }
+    ensures { λ _. ⌜ lentCells means «cell_qualities» .exit ≡ publishedCells weighting (sumsIn (counts .entry) («quality_sums» .entry) («value_sums» .entry)) (length (now (means .entry))) ⌝ }
 {
     publish_means(weighting, counts, quality_sums, value_sums, means);
     publish_qualities(counts, quality_sums, cell_qualities);

@@ -10,7 +10,8 @@ use crate::scan::qualities_accepted;
 use crate::scan::scan_refusal;
 use crate::tally::tally;
 ghost use mathlib.Core.Path.{_≡_};
-ghost use Rattle.remap.specs.Remap.{ledgerOf, countsOf, qualitySumsOf, valueSumsOf, meansOf, cellQualitiesOf, answerOf, refusalFor, Filled};
+ghost use Rattle.remap.specs.Lent.{listsOf, lent};
+ghost use Rattle.remap.specs.Remap.{filledLists, Remaps, scanOf};
 ghost use Rattle.remap.specs.ScanRoom.{AcceptedScan};
 
 // Takes any scan whatever. A refusal gives its number only and leaves every lent list as it came in.
@@ -26,8 +27,9 @@ pub fn remap(
     means: &mut [u16],
     cell_qualities: &mut [u8],
 ) -> Remapped
-    ensures { λ r. ⌜ r ≡ answerOf (refusalFor head (now (azimuths .entry)) (now (values .entry)) (now (qualities .entry)) (now (ledger .entry)) (now (counts .entry)) (now («quality_sums» .entry)) (now («value_sums» .entry)) (now (means .entry)) (now («cell_qualities» .entry))) ⌝ }
-    ensures { λ r. ⌜ Filled head (now (azimuths .entry)) (now (values .entry)) (now (qualities .entry)) (now (ledger .entry)) (now (counts .entry)) (now («quality_sums» .entry)) (now («value_sums» .entry)) (now (means .entry)) (now («cell_qualities» .entry)) (now (ledger .exit)) (now (counts .exit)) (now («quality_sums» .exit)) (now («value_sums» .exit)) (now (means .exit)) (now («cell_qualities» .exit)) ⌝ }
+    ensures { λ r. ⌜ Remaps
+        (scanOf head (azimuths .entry) (values .entry) (qualities .entry))
+        (lent ledger counts «quality_sums» «value_sums» means «cell_qualities») r ⌝ }
 {
     let given = Lengths {
         azimuths: azimuths.len(),
@@ -78,13 +80,8 @@ fn accepted_remap(
     means: &mut [u16],
     cell_qualities: &mut [u8],
 )
-    requires { ⌜ AcceptedScan head (now azimuths) (now values) (now qualities) (now ledger) (now counts) (now «quality_sums») (now «value_sums») (now means) (now «cell_qualities») ⌝ }
-    ensures { λ _. ⌜ now (ledger .exit) ≡ ledgerOf head (now (azimuths .entry)) ⌝ }
-    ensures { λ _. ⌜ now (counts .exit) ≡ countsOf head (now (azimuths .entry)) (now (values .entry)) (now (qualities .entry)) ⌝ }
-    ensures { λ _. ⌜ now («quality_sums» .exit) ≡ qualitySumsOf head (now (azimuths .entry)) (now (values .entry)) (now (qualities .entry)) ⌝ }
-    ensures { λ _. ⌜ now («value_sums» .exit) ≡ valueSumsOf head (now (azimuths .entry)) (now (values .entry)) (now (qualities .entry)) ⌝ }
-    ensures { λ _. ⌜ now (means .exit) ≡ meansOf head (now (azimuths .entry)) (now (values .entry)) (now (qualities .entry)) ⌝ }
-    ensures { λ _. ⌜ now («cell_qualities» .exit) ≡ cellQualitiesOf head (now (azimuths .entry)) (now (values .entry)) (now (qualities .entry)) ⌝ }
+    requires { ⌜ AcceptedScan (scanOf head azimuths values qualities) (listsOf ledger counts «quality_sums» «value_sums» means «cell_qualities») ⌝ }
+    ensures { λ _. ⌜ lent ledger counts «quality_sums» «value_sums» means «cell_qualities» .exit ≡ filledLists (scanOf head (azimuths .entry) (values .entry) (qualities .entry)) ⌝ }
 {
     let site = head.site;
     let grid = head.grid;
@@ -97,6 +94,7 @@ fn accepted_remap(
         head.spacing,
         azimuths,
         ledger,
+        0,
     );
     tally(
         weighting,

@@ -3,8 +3,8 @@ use crate::gates::Weighting;
 use crate::gates::weigh;
 ghost use mathlib.Core.Path.{_≡_};
 ghost use lib.ListN.{length, replicate};
-ghost use Rattle.arithmetic.specs.Places.{table};
-ghost use Rattle.remap.specs.Tally.{countOf, qualitySumOf, valueSumOf};
+ghost use Rattle.remap.specs.Lent.{sumsIn, lentSums};
+ghost use Rattle.remap.specs.Tally.{talliedSums};
 ghost use Rattle.remap.specs.TallyRoom.{Tallied};
 
 // Tallies start from nothing: what the lent lists held before plays no part.
@@ -17,10 +17,8 @@ pub fn tally(
     quality_sums: &mut [u32],
     value_sums: &mut [u64],
 )
-    requires { ⌜ Tallied (now ledger) (now values) (now qualities) (now counts) (now «quality_sums») (now «value_sums») ⌝ }
-    ensures { λ _. ⌜ now (counts .exit) ≡ table (countOf (now (ledger .entry)) (now (values .entry)) (now (qualities .entry))) (length (now (counts .entry))) ⌝ }
-    ensures { λ _. ⌜ now («quality_sums» .exit) ≡ table (qualitySumOf (now (ledger .entry)) (now (values .entry)) (now (qualities .entry))) (length (now (counts .entry))) ⌝ }
-    ensures { λ _. ⌜ now («value_sums» .exit) ≡ table (valueSumOf (now (ledger .entry)) (now (values .entry)) (now (qualities .entry)) weighting) (length (now (counts .entry))) ⌝ }
+    requires { ⌜ Tallied (now ledger) (now values) (now qualities) (sumsIn counts «quality_sums» «value_sums») ⌝ }
+    ensures { λ _. ⌜ lentSums counts «quality_sums» «value_sums» .exit ≡ talliedSums weighting (now (ledger .entry)) (now (values .entry)) (now (qualities .entry)) (length (now (counts .entry))) ⌝ }
 {
     clear32(counts);
     clear32(quality_sums);

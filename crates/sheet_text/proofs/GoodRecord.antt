@@ -13,7 +13,10 @@ use Rattle.placement.specs.Window.{windowOf}
 use Rattle.placement.proofs.Accepted.{range-bounds}
 use Rattle.remap.specs.declared.scan.ScanHead.{ScanHead}
 use Rattle.remap.specs.Scan.{gatesOf, cellsOf, listsAccepted, lengthsAccepted, qualityAccepted, scanRefusal}
-use Rattle.remap.specs.Remap.{countsOf, meansOf, cellQualitiesOf, afterwards, refusalFor, Filled}
+use Rattle.remap.specs.declared.scan.Remapped.{Remapped}
+use Rattle.remap.specs.Lent.{Lists}
+use Rattle.remap.specs.Remap.{Scan, filledLists, afterwards, lengthsOf, refusalFor, Remaps}
+use Rattle.remap.specs.Tally.{talliedSums}
 use Rattle.remap.proofs.AcceptedScan.{AcceptedNumbers, accepted-numbers, window-size}
 use Rattle.scan_record.specs.declared.reader.ReadScan.{ReadScan}
 use Rattle.scan_record.specs.BigEndian.{numbersAt}
@@ -21,7 +24,7 @@ use Rattle.scan_record.specs.RecordPlaces.{raysIn, gatesIn, headIn, azimuthsIn,
 use Rattle.scan_record.specs.RecordRefusal.{headRefusal, recordRefusal, readRefusal}
 use Rattle.scan_record.specs.RecordAnswer.{Reading}
 use Rattle.scan_record.proofs.AcceptedRecord.{accepted-record}
-use Rattle.sheet_text.specs.SheetText.{sheetLines, goodSheet}
+use Rattle.sheet_text.specs.SheetText.{scanIn, placedOf, sheetLines, goodSheet}
 use Rattle.sheet_text.specs.SheetRoom.{Sized, Fitting}
 use Rattle.sheet_text.proofs.PlacedTotal.{placed-total}
 
@@ -58,84 +61,67 @@ lists-exact : (head : ScanHead) (a v q : ℕ) → a ≡ head .rays → v ≡ gat
 unfolding listsAccepted
 lists-exact head a v q d e f = rw (eq-eqb a (head .rays) d, eq-eqb v (gatesOf head) e, eq-eqb q (gatesOf head) f)
 
-now-filled : {number : ℕ} {after full : List ℕ} (before : List ℕ) → number ≡ 0 → after ≡ afterwards number before full → after ≡ full
+now-filled : {A : Type 0} {number : ℕ} {after full : A} (before : A) → number ≡ 0 → after ≡ afterwards number before full → after ≡ full
 unfolding afterwards
 now-filled before z e = e ∙ rw z
 
-pub record ReadLists (bytes azimuths values qualities : List ℕ) : Type 0 where
-  pub the-azimuths : azimuths ≡ azimuthsIn bytes
-  pub the-values : values ≡ valuesIn bytes
-  pub the-qualities : qualities ≡ qualitiesIn bytes
-
-module _ {bytes : List ℕ} {head : ScanHead} {azimuths values qualities ledger counts qualitySums valueSums means cellQualities : List ℕ} (s : Sized bytes head) (f : Fitting head azimuths values qualities ledger counts qualitySums valueSums means cellQualities) where
-  no-refusal : readRefusal bytes azimuths values qualities ≡ 0
+module _ {bytes : List ℕ} {scan : Scan} {lists : Lists} (s : Sized bytes (scan .head)) (f : Fitting scan lists) where
+  no-refusal : readRefusal bytes (scan .azimuths) (scan .values) (scan .qualities) ≡ 0
   unfolding readRefusal headRefusal
   no-refusal =
       ap (recordRefusal bytes)
-      (lists-exact (headIn bytes) _ _ _ (rw (sym (s .is-head)) (f .azimuths-length)) (rw (sym (s .is-head)) (f .values-length)) (rw (sym (s .is-head)) (f .qualities-length)))
+      (lists-exact (headIn bytes) _ _ _ (f .azimuths-length ∙ ap (λ (h : ScanHead). h .rays) (s .is-head)) (f .values-length ∙ ap gatesOf (s .is-head)) (f .qualities-length ∙ ap gatesOf (s .is-head)))
       ∙ s .accepted
 
-  pub read-lists : {answer : ReadScan} {azimuths′ values′ qualities′ : List ℕ} → Reading bytes azimuths values qualities answer azimuths′ values′ qualities′ → ReadLists bytes azimuths′ values′ qualities′
-  read-lists r = record {
-    the-azimuths = now-filled _ no-refusal (r .the-azimuths);
-    the-values = now-filled _ no-refusal (r .the-values);
-    the-qualities = now-filled _ no-refusal (r .the-qualities);
+  pub scan-read : {answer : ReadScan} {azimuths values qualities : List ℕ} → Reading bytes (scan .azimuths) (scan .values) (scan .qualities) answer azimuths values qualities → record { head = scan .head; azimuths = azimuths; values = values; qualities = qualities } ≡ scanIn bytes
+  unfolding scanIn
+  scan-read r i = record {
+    head = s .is-head i;
+    azimuths = now-filled _ no-refusal (r .the-azimuths) i;
+    values = now-filled _ no-refusal (r .the-values) i;
+    qualities = now-filled _ no-refusal (r .the-qualities) i;
   }
 
-  lengths-exact : refusalFor head (azimuthsIn bytes) (valuesIn bytes) (qualitiesIn bytes) ledger counts qualitySums valueSums means cellQualities ≡ 0
-  unfolding refusalFor scanRefusal lengthsAccepted headRefusal
-  lengths-exact =
+  not-refused : refusalFor (scanIn bytes) lists ≡ 0
+  unfolding scanIn refusalFor lengthsOf scanRefusal lengthsAccepted headRefusal
+  not-refused =
+      let cells = ap cellsOf (s .is-head) in
       rw (
-        lists-exact head (length (azimuthsIn bytes)) (length (valuesIn bytes)) (length (qualitiesIn bytes)) (rw (s .is-head) (azimuths-length bytes)) (rw (s .is-head) (values-length bytes)) (rw (s .is-head) (qualities-length bytes)),
-        eq-eqb _ _ (f .ledger-length),
-        eq-eqb _ _ (f .counts-length),
-        eq-eqb _ _ (f .quality-sums-length),
-        eq-eqb _ _ (f .value-sums-length),
-        eq-eqb _ _ (f .means-length),
-        eq-eqb _ _ (f .cell-qualities-length),
+        lists-exact (headIn bytes) (length (azimuthsIn bytes)) (length (valuesIn bytes)) (length (qualitiesIn bytes)) (azimuths-length bytes) (values-length bytes) (qualities-length bytes),
+        eq-eqb _ _ (f .ledger-length ∙ ap gatesOf (s .is-head)),
+        eq-eqb _ _ (f .counts-length ∙ cells),
+        eq-eqb _ _ (f .quality-sums-length ∙ cells),
+        eq-eqb _ _ (f .value-sums-length ∙ cells),
+        eq-eqb _ _ (f .means-length ∙ cells),
+        eq-eqb _ _ (f .cell-qualities-length ∙ cells),
       )
-      (rw (s .is-head) (accepted-record bytes true (s .accepted) .number))
+      (accepted-record bytes true (s .accepted) .number)
 
--- ---- what is remapped
-
-pub record Cells (bytes : List ℕ) (head : ScanHead) (counts means qualities : List ℕ) : Type 0 where
-  pub the-counts : counts ≡ countsOf head (azimuthsIn bytes) (valuesIn bytes) (qualitiesIn bytes)
-  pub the-means : means ≡ meansOf head (azimuthsIn bytes) (valuesIn bytes) (qualitiesIn bytes)
-  pub the-qualities : qualities ≡ cellQualitiesOf head (azimuthsIn bytes) (valuesIn bytes) (qualitiesIn bytes)
-
-module _ {bytes : List ℕ} {head : ScanHead} {azimuths values qualities ledger counts qualitySums valueSums means cellQualities : List ℕ} (s : Sized bytes head) (f : Fitting head azimuths values qualities ledger counts qualitySums valueSums means cellQualities) where
-  same-lists : {azimuths′ values′ qualities′ ledger′ counts′ qualitySums′ valueSums′ means′ cellQualities′ : List ℕ} → ReadLists bytes azimuths′ values′ qualities′ → Filled head azimuths′ values′ qualities′ ledger counts qualitySums valueSums means cellQualities ledger′ counts′ qualitySums′ valueSums′ means′ cellQualities′ → Filled head (azimuthsIn bytes) (valuesIn bytes) (qualitiesIn bytes) ledger counts qualitySums valueSums means cellQualities ledger′ counts′ qualitySums′ valueSums′ means′ cellQualities′
-  same-lists r filled = rw (sym (r .the-azimuths), sym (r .the-values), sym (r .the-qualities)) filled
-
-  pub remapped : {azimuths′ values′ qualities′ ledger′ counts′ qualitySums′ valueSums′ means′ cellQualities′ : List ℕ} → ReadLists bytes azimuths′ values′ qualities′ → Filled head azimuths′ values′ qualities′ ledger counts qualitySums valueSums means cellQualities ledger′ counts′ qualitySums′ valueSums′ means′ cellQualities′ → Cells bytes head counts′ means′ cellQualities′
-  remapped r filled = record {
-    the-counts = now-filled _ (lengths-exact s f) (same-lists r filled .the-counts);
-    the-means = now-filled _ (lengths-exact s f) (same-lists r filled .the-means);
-    the-qualities = now-filled _ (lengths-exact s f) (same-lists r filled .the-cell-qualities);
-  }
+  pub remapped : {given : Scan} {after : Lists} {answer : Remapped} → given ≡ scanIn bytes → Remaps given (record { entry = lists; exit = after }) answer → after ≡ filledLists (scanIn bytes)
+  remapped e r = now-filled lists not-refused (rw e at (r .the-lists))
 
 -- each list has the grid's cells
-pub counts-length : {bytes : List ℕ} {head : ScanHead} {counts means qualities : List ℕ} → Cells bytes head counts means qualities → length counts ≡ cellsOf head
-unfolding countsOf
-counts-length c = ap length (c .the-counts) ∙ table-length _ _
+module _ (bytes : List ℕ) {lists : Lists} (e : lists ≡ filledLists (scanIn bytes)) where
+  pub counts-length : length (lists .sums .counts) ≡ cellsOf (headIn bytes)
+  unfolding scanIn filledLists talliedSums
+  counts-length = ap (λ (l : Lists). length (l .sums .counts)) e ∙ table-length _ _
 
-pub means-length : {bytes : List ℕ} {head : ScanHead} {counts means qualities : List ℕ} → Cells bytes head counts means qualities → length means ≡ cellsOf head
-unfolding meansOf
-means-length c = ap length (c .the-means) ∙ table-length _ _
+  pub means-length : length (lists .cells .means) ≡ cellsOf (headIn bytes)
+  unfolding scanIn filledLists
+  means-length = ap (λ (l : Lists). length (l .cells .means)) e ∙ table-length _ _
 
-pub cell-qualities-length : {bytes : List ℕ} {head : ScanHead} {counts means qualities : List ℕ} → Cells bytes head counts means qualities → length qualities ≡ cellsOf head
-unfolding cellQualitiesOf
-cell-qualities-length c = ap length (c .the-qualities) ∙ table-length _ _
+  pub cell-qualities-length : length (lists .cells .qualities) ≡ cellsOf (headIn bytes)
+  unfolding scanIn filledLists
+  cell-qualities-length = ap (λ (l : Lists). length (l .cells .qualities)) e ∙ table-length _ _
 
 -- ---- what is printed
 
-abbrev linesOf : ScanHead → ℕ → List ℕ → List ℕ → List ℕ → List ℕ
-linesOf head placed counts means qualities = sheetLines (windowOf (head .grid) .columns) (windowOf (head .grid) .rows) (gatesOf head) placed counts means qualities
+abbrev linesOf : ScanHead → ℕ → Lists → List ℕ
+linesOf head placed lists = sheetLines (windowOf (head .grid) .columns) (windowOf (head .grid) .rows) (gatesOf head) placed (lists .sums .counts) (lists .cells .means) (lists .cells .qualities)
 
-pub is-sheet : {bytes : List ℕ} {head : ScanHead} {counts means qualities : List ℕ} → Sized bytes head → Cells bytes head counts means qualities → linesOf head (sumTo (λ k. getD counts k 0) (length counts)) counts means qualities ≡ goodSheet bytes
-unfolding goodSheet
-is-sheet {bytes} {head} {counts} {means} {qualities} s c =
-    rw (c .the-counts, c .the-means, c .the-qualities)
-    (ap (λ (placed : ℕ). linesOf head placed (countsOf head (azimuthsIn bytes) (valuesIn bytes) (qualitiesIn bytes)) (meansOf head (azimuthsIn bytes) (valuesIn bytes) (qualitiesIn bytes)) (cellQualitiesOf head (azimuthsIn bytes) (valuesIn bytes) (qualitiesIn bytes)))
-    (placed-total head (azimuthsIn bytes) (valuesIn bytes) (qualitiesIn bytes) (omega (arith, s .cells-most)))
-    ∙ rw (s .is-head))
+pub is-sheet : {bytes : List ℕ} {head : ScanHead} {lists : Lists} → Sized bytes head → lists ≡ filledLists (scanIn bytes) → linesOf head (sumTo (λ k. getD (lists .sums .counts) k 0) (length (lists .sums .counts))) lists ≡ goodSheet bytes
+unfolding goodSheet scanIn
+is-sheet {bytes} {head} {lists} s e =
+    ap (λ (l : Lists). linesOf head (sumTo (λ k. getD (l .sums .counts) k 0) (length (l .sums .counts))) l) e
+    ∙ ap (λ (placed : ℕ). linesOf head placed (filledLists (scanIn bytes))) (placed-total (scanIn bytes) (omega (arith, s .cells-most, ap cellsOf (s .is-head))))
+    ∙ ap (λ (h : ScanHead). linesOf h (placedOf (filledLists (scanIn bytes) .ledger) (valuesIn bytes)) (filledLists (scanIn bytes))) (s .is-head)

@@ -20,9 +20,11 @@ use Rattle.placement.specs.Window.{windowOf, inSpan, inWindow, cellNumber, loca
 use Rattle.placement.proofs.Cells.{in-span-natural}
 use Rattle.remap.specs.declared.scan.ScanHead.{ScanHead}
 use Rattle.remap.specs.Gates.{isMeasured}
-use Rattle.remap.specs.Scan.{gatesOf, cellsOf}
-use Rattle.remap.specs.Remap.{entryAt, ledgerOf, countsOf}
-use Rattle.remap.specs.Tally.{countOf}
+use Rattle.remap.specs.Scan.{cellsOf}
+use Rattle.remap.specs.Rays.{Ray}
+use Rattle.remap.specs.Remap.{Scan, raysOf, ledgerOf, filledLists}
+use Rattle.remap.specs.Tally.{countOf, talliedSums}
+use Rattle.remap.proofs.RayLaws.{gates-each}
 use Rattle.remap.proofs.CountTotal.{count-total}
 use Rattle.sheet_text.specs.SheetText.{isPlaced, placedOf}
 
@@ -63,9 +65,9 @@ unfolding unlessRefused entryOf
 refused-told zero window at h = located-told window at h
 refused-told (suc number) window at h = told-outside _ h
 
-entry-told : (head : ScanHead) (azimuths : List ℕ) (k : ℕ) → cellsOf head ≤ 4294967295 → Told (entryAt head azimuths k) (cellsOf head)
-unfolding entryAt placementOf cellsOf
-entry-told head azimuths k h = refused-told _ (windowOf (head .grid)) _ h
+entry-told : (head : ScanHead) (azimuth range : ℕ) → cellsOf head ≤ 4294967295 → Told (entryOf (placementOf (head .site) (head .grid) azimuth range)) (cellsOf head)
+unfolding placementOf cellsOf
+entry-told head azimuth range h = refused-told _ (windowOf (head .grid)) _ h
 
 -- ---- the sum
 
@@ -78,10 +80,9 @@ in-turn true false = refl
 in-turn false true = refl
 in-turn false false = refl
 
-ledger-at : (head : ScanHead) (azimuths : List ℕ) (k : ℕ) → k < length (ledgerOf head azimuths) → getD (ledgerOf head azimuths) k 0 ≡ entryAt head azimuths k
+ledger-told : (head : ScanHead) (rays : List Ray) (k : ℕ) → cellsOf head ≤ 4294967295 → k < length (ledgerOf head rays) → Told (getD (ledgerOf head rays) k 0) (cellsOf head)
 unfolding ledgerOf
-ledger-at head azimuths k i =
-    table-at (entryAt head azimuths) (gatesOf head) k (omega (arith, i, table-length (entryAt head azimuths) (gatesOf head)))
+ledger-told head rays k h i = gates-each (λ entry. Told entry (cellsOf head)) _ _ _ (λ ray range. entry-told head (ray .azimuth) range h) rays k i
 
 -- a gate is counted by some cell where it is placed
 counted-placed : (entry cells value : ℕ) → Told entry cells → _≡_ {A = ℕ} (cond (ltb entry cells && isMeasured value) 1 0) (cond (isPlaced entry value) 1 0)
@@ -89,10 +90,12 @@ unfolding isPlaced Told
 counted-placed entry cells value t =
     rw t (ap (λ (b : Bool). cond {A = ℕ} b 1 0) (in-turn (not (eqb entry 4294967295)) (isMeasured value)))
 
-pub placed-total : (head : ScanHead) (azimuths values qualities : List ℕ) → cellsOf head ≤ 4294967295 → sumTo (λ k. getD (countsOf head azimuths values qualities) k 0) (length (countsOf head azimuths values qualities)) ≡ placedOf (ledgerOf head azimuths) values
-unfolding countsOf placedOf
-placed-total head azimuths values qualities h =
-    table-sum (countOf (ledgerOf head azimuths) values qualities) (cellsOf head)
-    ∙ count-total (ledgerOf head azimuths) values qualities (cellsOf head)
-    ∙ sum-ext _ _ (length (ledgerOf head azimuths))
-    (λ k i. counted-placed (getD (ledgerOf head azimuths) k 0) (cellsOf head) (getD values k 0) (rw (ledger-at head azimuths k i) (entry-told head azimuths k h)))
+pub placed-total : (scan : Scan) → cellsOf (scan .head) ≤ 4294967295 → let lists = filledLists scan in sumTo (λ k. getD (lists .sums .counts) k 0) (length (lists .sums .counts)) ≡ placedOf (lists .ledger) (scan .values)
+unfolding filledLists talliedSums placedOf
+placed-total scan h =
+    let rays = raysOf (scan .head) (scan .azimuths) in
+    let ledger = ledgerOf (scan .head) rays in
+    table-sum (countOf ledger (scan .values) (scan .qualities)) (cellsOf (scan .head))
+    ∙ count-total ledger (scan .values) (scan .qualities) (cellsOf (scan .head))
+    ∙ sum-ext _ _ (length ledger)
+    (λ k i. counted-placed (getD ledger k 0) (cellsOf (scan .head)) (getD (scan .values) k 0) (ledger-told (scan .head) rays k h i))

@@ -4,6 +4,8 @@ use mathlib.Core.Path.{_≡_}
 use Prim.Native.Nat.{ℕ, _≤_}
 use lib.ListN.{length}
 use Rattle.remap.specs.declared.scan.ScanHead.{ScanHead}
+use Rattle.remap.specs.Lent.{Lists}
+use Rattle.remap.specs.Remap.{Scan}
 use Rattle.remap.specs.Scan.{gatesOf, cellsOf}
 use Rattle.scan_record.specs.RecordPlaces.{headIn}
 use Rattle.scan_record.specs.RecordRefusal.{headRefusal}
@@ -16,13 +18,13 @@ pub record Sized (bytes : List ℕ) (head : ScanHead) : Type 0 where
   pub cells-most : cellsOf head ≤ 1024
 
 -- the exact lengths of the nine lists
-pub record Fitting (head : ScanHead) (azimuths values qualities ledger counts qualitySums valueSums means cellQualities : List ℕ) : Type 0 where
-  pub azimuths-length : length azimuths ≡ head .rays
-  pub values-length : length values ≡ gatesOf head
-  pub qualities-length : length qualities ≡ gatesOf head
-  pub ledger-length : length ledger ≡ gatesOf head
-  pub counts-length : length counts ≡ cellsOf head
-  pub quality-sums-length : length qualitySums ≡ cellsOf head
-  pub value-sums-length : length valueSums ≡ cellsOf head
-  pub means-length : length means ≡ cellsOf head
-  pub cell-qualities-length : length cellQualities ≡ cellsOf head
+pub record Fitting (scan : Scan) (lists : Lists) : Type 0 where
+  pub azimuths-length : length (scan .azimuths) ≡ scan .head .rays
+  pub values-length : length (scan .values) ≡ gatesOf (scan .head)
+  pub qualities-length : length (scan .qualities) ≡ gatesOf (scan .head)
+  pub ledger-length : length (lists .ledger) ≡ gatesOf (scan .head)
+  pub counts-length : length (lists .sums .counts) ≡ cellsOf (scan .head)
+  pub quality-sums-length : length (lists .sums .qualitySums) ≡ cellsOf (scan .head)
+  pub value-sums-length : length (lists .sums .valueSums) ≡ cellsOf (scan .head)
+  pub means-length : length (lists .cells .means) ≡ cellsOf (scan .head)
+  pub cell-qualities-length : length (lists .cells .qualities) ≡ cellsOf (scan .head)

@@ -8,7 +8,7 @@ use Rattle.arithmetic.specs.Places.{sumTo}
 use Rattle.placement.specs.Window.{windowOf}
 use Rattle.remap.specs.Gates.{isMeasured}
 use Rattle.remap.specs.Scan.{gatesOf, cellsOf}
-use Rattle.remap.specs.Remap.{ledgerOf, countsOf, meansOf, cellQualitiesOf}
+use Rattle.remap.specs.Remap.{Scan, filledLists}
 use Rattle.scan_record.specs.RecordPlaces.{headIn, azimuthsIn, valuesIn, qualitiesIn}
 use Rattle.scan_record.specs.RecordRefusal.{headRefusal}
 use Rattle.text.specs.DecimalText.{decimalOf, lineOf}
@@ -70,14 +70,16 @@ unfoldable pub refusedOr : ℕ → List ℕ → List ℕ
 refusedOr zero sheet = sheet
 refusedOr (suc number) sheet = refusedLine (suc number)
 
+-- the scan of a record
+unfoldable pub scanIn : List ℕ → Scan
+scanIn bytes = record { head = headIn bytes; azimuths = azimuthsIn bytes; values = valuesIn bytes; qualities = qualitiesIn bytes }
+
 module _ (bytes : List ℕ) where
   unfoldable pub goodSheet : List ℕ
   goodSheet =
+      let lists = filledLists (scanIn bytes) in
       sheetLines (windowOf (headIn bytes .grid) .columns) (windowOf (headIn bytes .grid) .rows) (gatesOf (headIn bytes))
-      (placedOf (ledgerOf (headIn bytes) (azimuthsIn bytes)) (valuesIn bytes))
-      (countsOf (headIn bytes) (azimuthsIn bytes) (valuesIn bytes) (qualitiesIn bytes))
-      (meansOf (headIn bytes) (azimuthsIn bytes) (valuesIn bytes) (qualitiesIn bytes))
-      (cellQualitiesOf (headIn bytes) (azimuthsIn bytes) (valuesIn bytes) (qualitiesIn bytes))
+      (placedOf (lists .ledger) (valuesIn bytes)) (lists .sums .counts) (lists .cells .means) (lists .cells .qualities)
 
   -- a good record of at most 4,096 gates and 1,024 cells
   unfoldable pub sizedSheet : List ℕ

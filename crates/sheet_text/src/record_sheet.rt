@@ -3,6 +3,8 @@ use crate::lines::put_sheet;
 use remap::ScanHead;
 ghost use Prim.Native.Nat.{_≤_};
 ghost use lib.ListN.{length};
+ghost use Rattle.remap.specs.Lent.{listsOf};
+ghost use Rattle.remap.specs.Remap.{scanOf};
 ghost use Rattle.text.specs.StoredText.{Stored};
 ghost use Rattle.sheet_text.specs.SheetText.{goodSheet};
 ghost use Rattle.sheet_text.specs.SheetRoom.{Sized, Fitting};
@@ -22,7 +24,7 @@ fn cells_text(
     cell_qualities: &mut [u8],
     page: &mut [u8],
 ) -> usize
-    requires { ⌜ Sized (now bytes) head × Fitting head (now azimuths) (now values) (now qualities) (now ledger) (now counts) (now «quality_sums») (now «value_sums») (now means) (now «cell_qualities») × (120000 ≤ length (now page)) ⌝ }
+    requires { ⌜ Sized (now bytes) head × Fitting (scanOf head azimuths values qualities) (listsOf ledger counts «quality_sums» «value_sums» means «cell_qualities») × (120000 ≤ length (now page)) ⌝ }
     ensures { λ r. ⌜ r ≤ 120000 ⌝ }
     ensures { λ r. ⌜ Stored (now (page .entry)) 0 (goodSheet (now (bytes .entry))) r (now (page .exit)) ⌝ }
 {

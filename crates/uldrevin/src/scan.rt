@@ -4,7 +4,8 @@ use crate::head::hrap_head;
 use crate::head::radolan_head;
 use remap::Remapped;
 ghost use mathlib.Core.Path.{_≡_};
-ghost use Rattle.remap.specs.Remap.{refusalFor, Filled};
+ghost use Rattle.remap.specs.Lent.{lent};
+ghost use Rattle.remap.specs.Remap.{refusalFor, Filled, scanOf};
 ghost use Rattle.uldrevin.specs.ScanNumbers.{numberOf, radolanHead, hrapHead};
 
 #[no_mangle]
@@ -31,8 +32,10 @@ pub extern "C" fn uldrevin_remap_radolan(
     means: &mut [u16],
     cell_qualities: &mut [u8],
 ) -> u32
-    ensures { λ r. ⌜ r ≡ refusalFor (radolanHead rays gates first spacing latitude longitude «corner_x» «corner_y» side columns rows «by_quality») (now (azimuths .entry)) (now (values .entry)) (now (qualities .entry)) (now (ledger .entry)) (now (counts .entry)) (now («quality_sums» .entry)) (now («value_sums» .entry)) (now (means .entry)) (now («cell_qualities» .entry)) ⌝ }
-    ensures { λ r. ⌜ Filled (radolanHead rays gates first spacing latitude longitude «corner_x» «corner_y» side columns rows «by_quality») (now (azimuths .entry)) (now (values .entry)) (now (qualities .entry)) (now (ledger .entry)) (now (counts .entry)) (now («quality_sums» .entry)) (now («value_sums» .entry)) (now (means .entry)) (now («cell_qualities» .entry)) (now (ledger .exit)) (now (counts .exit)) (now («quality_sums» .exit)) (now («value_sums» .exit)) (now (means .exit)) (now («cell_qualities» .exit)) ⌝ }
+    ensures { λ r.
+        let scan = scanOf (radolanHead rays gates first spacing latitude longitude «corner_x» «corner_y» side columns rows «by_quality») (azimuths .entry) (values .entry) (qualities .entry) in
+        let lists = lent ledger counts «quality_sums» «value_sums» means «cell_qualities» in
+        ⌜ (r ≡ refusalFor scan (lists .entry)) × Filled scan lists ⌝ }
 {
     let head = radolan_head(
         rays,
@@ -85,8 +88,10 @@ pub extern "C" fn uldrevin_remap_hrap(
     means: &mut [u16],
     cell_qualities: &mut [u8],
 ) -> u32
-    ensures { λ r. ⌜ r ≡ refusalFor (hrapHead rays gates first spacing latitude longitude i j columns rows «by_quality») (now (azimuths .entry)) (now (values .entry)) (now (qualities .entry)) (now (ledger .entry)) (now (counts .entry)) (now («quality_sums» .entry)) (now («value_sums» .entry)) (now (means .entry)) (now («cell_qualities» .entry)) ⌝ }
-    ensures { λ r. ⌜ Filled (hrapHead rays gates first spacing latitude longitude i j columns rows «by_quality») (now (azimuths .entry)) (now (values .entry)) (now (qualities .entry)) (now (ledger .entry)) (now (counts .entry)) (now («quality_sums» .entry)) (now («value_sums» .entry)) (now (means .entry)) (now («cell_qualities» .entry)) (now (ledger .exit)) (now (counts .exit)) (now («quality_sums» .exit)) (now («value_sums» .exit)) (now (means .exit)) (now («cell_qualities» .exit)) ⌝ }
+    ensures { λ r.
+        let scan = scanOf (hrapHead rays gates first spacing latitude longitude i j columns rows «by_quality») (azimuths .entry) (values .entry) (qualities .entry) in
+        let lists = lent ledger counts «quality_sums» «value_sums» means «cell_qualities» in
+        ⌜ (r ≡ refusalFor scan (lists .entry)) × Filled scan lists ⌝ }
 {
     let head = hrap_head(
         rays,

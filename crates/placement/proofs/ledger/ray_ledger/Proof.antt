@@ -6,18 +6,17 @@ use native.Mathlib.Nat.{le-antisymm}
 use native.Mathlib.Omega.{arith}
 use borrow.Author.Needs.{needs, scaled-fits}
 use lib.ListN.{length}
-use Rattle.arithmetic.specs.Places.{Written}
-use Rattle.arithmetic.proofs.Places.{written-none, written-more, written-up-to}
 use Rattle.placement.specs.Gate.{entryOf}
-use Rattle.placement.specs.Survey.{surveyedEntry}
+use Rattle.placement.specs.Survey.{surveyedEntry, surveyedRay}
 use Rattle.placement.proofs.GateTerms.{ray-limits}
+use Rattle.placement.proofs.StoredTable.{Storing, storing-none, storing-next}
 use Rattle.placement.proofs.OtherAnswers.{not-inside}
 use Rattle.placement.proofs.ledger.ray_ledger.Statement.{statement}
 use Rattle.placement.proofs.ledger.ray_ledger.Tie as tie
 
 abbrev Inv-loop : tie.InvT-loop
 Inv-loop survey azimuth first spacing ledger₀ start end ray k₀ ledger k =
-    (start ≤ k) × (k ≤ end) × Written (λ j. surveyedEntry survey azimuth (first + (j - start) * spacing)) start k ledger₀ ledger
+    (start ≤ k) × (k ≤ end) × Storing (λ g. surveyedEntry survey azimuth (first + g * spacing)) start k ledger₀ ledger
 
 abbrev μ-loop : tie.MeasureT-loop
 μ-loop survey azimuth first spacing ledger₀ start end ray k₀ ledger k = end - k
@@ -34,7 +33,7 @@ ray-terms-requires : tie.Need-ray-terms-requires Inv-loop μ-loop
 ray-terms-requires c κs = search needs
 
 loop-holds : tie.Need-loop-holds Inv-loop μ-loop
-loop-holds c = (omega arith, omega arith, written-none _ _ _)
+loop-holds c = (omega arith, omega arith, storing-none _ _ _)
 
 sub-range : tie.Need-sub-range Inv-loop μ-loop
 sub-range c = omega arith
@@ -75,7 +74,7 @@ loop-again c =
     let l = c .before .before .before .loop in (
       omega arith,
       omega arith,
-      written-more _ _ _ _ _ _ (l .inv .2) (l .inv .0) (omega arith) (not-inside (c .before .gate-at .result) (c .match .keys2) ∙ entry-is (c .before)),
+      storing-next _ _ _ _ _ _ (l .inv .0) (l .inv .2) (not-inside (c .before .gate-at .result) (c .match .keys2) ∙ entry-is (c .before)),
     )
 
 mul-ledger-2 : tie.Need-mul-ledger-2 Inv-loop μ-loop
@@ -98,16 +97,17 @@ loop-again-2 c =
     let l = c .before .before .before .before .before .loop in (
       omega arith,
       omega arith,
-      written-more _ _ _ _ _ _ (l .inv .2) (l .inv .0) (omega arith) (sym (ap entryOf (c .before .cell .given .1)) ∙ entry-is (c .before .before .before)),
+      storing-next _ _ _ _ _ _ (l .inv .0) (l .inv .2) (sym (ap entryOf (c .before .cell .given .1)) ∙ entry-is (c .before .before .before)),
     )
 
 same-length : tie.Need-same-length Inv-loop μ-loop
 same-length c = c .before .loop .inv .2 .same-length
 
 returns : tie.Need-returns Inv-loop μ-loop
+unfolding surveyedRay
 returns c =
     let l = c .before .loop in
-    written-up-to (le-antisymm (l .inv .1) (c .loop-test .left)) (l .inv .2)
+    rw (sym (le-antisymm (l .inv .1) (c .loop-test .left))) (l .inv .2 .stored)
 
 pub ray-ledger-spec : {M : Type 1} → statement M
 ray-ledger-spec =

@@ -1,7 +1,8 @@
 -- `remap::remap_scan::remap` meets its contract: a refused scan leaves every list, an accepted one fills each. Assumes nothing.
 use mathlib.Core.Path.{_≡_, sym, _∙_}
 use Prim.Native.Nat.{ℕ}
-use Rattle.remap.specs.Remap.{refusalFor}
+use Rattle.remap.specs.Lent.{listsOf}
+use Rattle.remap.specs.Remap.{scanOf, lengthsOf, refusalFor}
 use Rattle.remap.specs.Scan.{scanRefusal}
 use Rattle.remap.proofs.AcceptedScan.{accepted-scan}
 use Rattle.remap.proofs.ScanAnswer.{refused-answer, done-answer, kept, filled}
@@ -14,10 +15,13 @@ given c = c .before .before .before .before .before .before .before .before .bef
 
 -- the refusal of the scan that came in
 abbrev number : tie.Start → ℕ
-number s = refusalFor (s .args .head) (s .args .azimuths .now) (s .args .values .now) (s .args .qualities .now) (s .args .ledger .now) (s .args .counts .now) (s .args .quality-sums .now) (s .args .value-sums .now) (s .args .means .now) (s .args .cell-qualities .now)
+number s =
+    let a = s .args in
+    refusalFor (scanOf (a .head) (a .azimuths) (a .values) (a .qualities))
+    (listsOf (a .ledger) (a .counts) (a .quality-sums) (a .value-sums) (a .means) (a .cell-qualities))
 
 is-refusal : (c : tie.After-scan-refusal) → c .scan-refusal .result ≡ number (given c)
-unfolding refusalFor scanRefusal
+unfolding refusalFor lengthsOf scanRefusal
 is-refusal c =
     let lists = c .before in
     c .scan-refusal .ensures
@@ -42,20 +46,10 @@ scan-refusal-requires : tie.Need-scan-refusal-requires
 scan-refusal-requires c κs = search needs
 
 returns : tie.Need-returns
-returns c = (
-  rw (is-refusal (c .before)) (refused-answer _ (refused c)),
-  record {
-    the-ledger = kept _ _ _ (refused c);
-    the-counts = kept _ _ _ (refused c);
-    the-quality-sums = kept _ _ _ (refused c);
-    the-value-sums = kept _ _ _ (refused c);
-    the-means = kept _ _ _ (refused c);
-    the-cell-qualities = kept _ _ _ (refused c);
-  },
-)
+returns c = record { the-answer = rw (is-refusal (c .before)) (refused-answer _ (refused c)); the-lists = kept _ _ _ (refused c) }
 
 accepted-remap-requires : tie.Need-accepted-remap-requires
-accepted-remap-requires c κs = accepted-scan _ _ _ _ _ _ _ _ _ _ (accepted (c .before .before .before .before .before .before))
+accepted-remap-requires c κs = accepted-scan _ _ (accepted (c .before .before .before .before .before .before))
 
 same-length : tie.Need-same-length
 same-length c = search needs
@@ -76,18 +70,10 @@ same-length-6 : tie.Need-same-length-6
 same-length-6 c = search needs
 
 returns-2 : tie.Need-returns-2
-returns-2 c = let zero = accepted (c .before .before .before .before .before .before .before .before .before .before .before .before .before .before .before .before .before .before .before) in
-    let done = c .before .before .before .before .before .before .before .before .before .before .before .before .accepted-remap .ensures in (
-      done-answer zero,
-      record {
-        the-ledger = filled _ zero (done .0);
-        the-counts = filled _ zero (done .1 .0);
-        the-quality-sums = filled _ zero (done .1 .1 .0);
-        the-value-sums = filled _ zero (done .1 .1 .1 .0);
-        the-means = filled _ zero (done .1 .1 .1 .1 .0);
-        the-cell-qualities = filled _ zero (done .1 .1 .1 .1 .1);
-      },
-    )
+returns-2 c =
+    let remapped = c .before .before .before .before .before .before .before .before .before .before .before .before in
+    let zero = accepted (remapped .before .before .before .before .before .before .before) in
+    record { the-answer = done-answer zero; the-lists = filled _ zero (remapped .accepted-remap .ensures) }
 
 pub remap-spec : {M : Type 1} → statement M
 remap-spec =

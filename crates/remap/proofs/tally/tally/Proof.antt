@@ -8,7 +8,7 @@ use native.Mathlib.Omega.{arith}
 use borrow.Author.Needs.{needs}
 use lib.ListN.{length, getD}
 use Rattle.remap.specs.Gates.{isMeasured, weighed}
-use Rattle.remap.specs.Tally.{countOf, qualitySumOf, valueSumOf}
+use Rattle.remap.specs.Tally.{countOf, qualitySumOf, valueSumOf, talliedSums}
 use Rattle.remap.proofs.TallyTurn.{SumsAfter, is-measured, before-first, no-cell, unmeasured, measured, cell-most, after-last}
 use Rattle.remap.proofs.TallyWidth.{weighed-most}
 use Rattle.remap.proofs.tally.tally.Statement.{statement}
@@ -192,11 +192,15 @@ same-length-3 : tie.Need-same-length-3 Inv-loop μ-loop
 same-length-3 c = search needs
 
 returns : tie.Need-returns Inv-loop μ-loop
-unfolding countOf qualitySumOf valueSumOf
+unfolding talliedSums countOf qualitySumOf valueSumOf
 returns c =
     let l = c .before .loop .inv in
     let e = c .before .before .before .before .before .before .before .before .before .before .before .before .clear32 .kept .0 in
-    (after-last (l .1) (l .0) (c .loop-test .left) e, (after-last (l .2) (l .0) (c .loop-test .left) e, after-last (l .3) (l .0) (c .loop-test .left) e))
+    λ i. record {
+      counts = after-last (l .1) (l .0) (c .loop-test .left) e i;
+      qualitySums = after-last (l .2) (l .0) (c .loop-test .left) e i;
+      valueSums = after-last (l .3) (l .0) (c .loop-test .left) e i;
+    }
 
 pub tally-spec : {M : Type 1} → statement M
 tally-spec =

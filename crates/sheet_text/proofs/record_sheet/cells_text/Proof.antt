@@ -1,7 +1,11 @@
 -- `sheet_text::record_sheet::cells_text` meets its contract: read, remapped, printed. Assumes nothing.
-use mathlib.Core.Path.{sym, _∙_}
+use mathlib.Core.Path.{_≡_, sym, ap, _∙_}
+use Rattle.remap.specs.Lent.{Lists}
+use Rattle.remap.specs.Remap.{filledLists}
+use Rattle.remap.specs.Scan.{cellsOf}
+use Rattle.sheet_text.specs.SheetText.{scanIn}
 use native.Mathlib.Omega.{arith}
-use Rattle.sheet_text.proofs.GoodRecord.{ReadLists, Cells, grid-good, columns-least, read-lists, remapped, counts-length, means-length, cell-qualities-length, is-sheet}
+use Rattle.sheet_text.proofs.GoodRecord.{grid-good, columns-least, scan-read, remapped, counts-length, means-length, cell-qualities-length, is-sheet}
 use Rattle.text.proofs.StoredLaws.{stored-same}
 use borrow.Author.Needs.{needs}
 use Rattle.sheet_text.proofs.record_sheet.cells_text.Statement.{statement}
@@ -19,11 +23,19 @@ given-remap c = given (at-read c)
 
 -- ---- what each step leaves
 
-read-done : (c : tie.After-read-scan) → ReadLists (given c .args .bytes .now) (c .read-scan .last .1 .0) (c .read-scan .last .1 .1 .0) (c .read-scan .last .1 .1 .1 .0)
-read-done c = read-lists (given c .pre .0) (given c .pre .1) (c .read-scan .ensures)
+read-done : (c : tie.After-read-scan) → record { head = given c .args .head; azimuths = c .read-scan .last .1 .0; values = c .read-scan .last .1 .1 .0; qualities = c .read-scan .last .1 .1 .1 .0 } ≡ scanIn (given c .args .bytes .now)
+read-done c = scan-read (given c .pre .0) (given c .pre .1) (c .read-scan .ensures)
 
-cells-done : (c : tie.After-remap) → Cells (given-remap c .args .bytes .now) (given-remap c .args .head) (c .remap .last .1 .1 .1 .1 .1 .0) (c .remap .last .1 .1 .1 .1 .1 .1 .1 .1 .0) (c .remap .last .1 .1 .1 .1 .1 .1 .1 .1 .1 .0)
-cells-done c = remapped (given-remap c .pre .0) (given-remap c .pre .1) (read-done (at-read c)) (c .remap .ensures .1)
+-- the lists as `remap` leaves them
+abbrev left : tie.After-remap → Lists
+left c = let last = c .remap .last .1 .1 .1 .1 in record {
+  ledger = last .0;
+  sums = record { counts = last .1 .0; qualitySums = last .1 .1 .0; valueSums = last .1 .1 .1 .0 };
+  cells = record { means = last .1 .1 .1 .1 .0; qualities = last .1 .1 .1 .1 .1 .0 };
+}
+
+cells-done : (c : tie.After-remap) → left c ≡ filledLists (scanIn (given-remap c .args .bytes .now))
+cells-done c = remapped (given-remap c .pre .0) (given-remap c .pre .1) (read-done (at-read c)) (c .remap .ensures)
 
 read-scan-requires : tie.Need-read-scan-requires
 read-scan-requires c κs = search needs
@@ -43,9 +55,9 @@ put-sheet-requires c κs =
     let start = given-remap remap in
     let cells = cells-done remap in (
       rw (c .before .before .before .before .before .window-of .ensures) (columns-least (start .pre .0)),
-      omega (arith, counts-length cells, start .pre .0 .cells-most),
-      means-length cells ∙ sym (counts-length cells),
-      cell-qualities-length cells ∙ sym (counts-length cells),
+      omega (arith, counts-length _ cells, ap cellsOf (start .pre .0 .is-head), start .pre .0 .cells-most),
+      means-length _ cells ∙ sym (counts-length _ cells),
+      cell-qualities-length _ cells ∙ sym (counts-length _ cells),
       start .pre .2,
     )
 

@@ -40,7 +40,7 @@ same-length-6 c = search needs
 returns : tie.Need-returns
 returns c =
     let told = rw (head-is (c .before .before .before .before .before .before .before .before .before .before .before .before .before .before .before .before .before .before .before .before)) at (c .before .before .before .before .before .before .before .before .before .before .before .before .before .remap .ensures) in
-    (c .number-of .ensures ∙ ap numberOf (told .0) ∙ number-of-answer _, told .1)
+    (c .number-of .ensures ∙ ap numberOf (told .the-answer) ∙ number-of-answer _, told .the-lists)
 
 pub uldrevin-remap-hrap-spec : {M : Type 1} → statement M
 uldrevin-remap-hrap-spec =
