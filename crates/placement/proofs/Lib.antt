@@ -11,3 +11,4 @@ pub mod OtherAnswers
 pub mod GateNear
 pub mod GateCases
 pub mod StoredTable
+pub mod AnswerLaws

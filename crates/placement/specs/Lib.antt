@@ -1,3 +1,4 @@
+pub mod Answer
 pub mod Sphere
 pub mod Arc
 pub mod Position

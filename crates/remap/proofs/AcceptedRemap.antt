@@ -7,7 +7,7 @@ use native.Mathlib.Nat.{mul-le-mul, mul-le-mul-right}
 use native.Mathlib.Omega.{arith}
 use borrow.Author.Tests.{leb-true, le-leb}
 use lib.Dec.{leb}
-use lib.ListN.{length, getD}
+use lib.ListN.{length, getD, length-replicate}
 use lib.Seq.{sets}
 use Rattle.arithmetic.specs.Places.{table, allOf}
 use Rattle.arithmetic.proofs.Places.{table-length, table-at, table-ext, all-at}
@@ -20,14 +20,18 @@ use Rattle.placement.proofs.SurveyLimits.{surveyed-of}
 use Rattle.remap.specs.declared.scan.ScanHead.{ScanHead}
 use Rattle.remap.specs.Publish.{publishedCells}
 use Rattle.remap.specs.Rays.{regularRays}
-use Rattle.remap.specs.Lent.{Lists, Sums}
-use Rattle.remap.specs.Remap.{Scan, raysOf, ledgerOf, filledLists}
-use Rattle.remap.specs.Scan.{centresAccepted, qualityAccepted, gatesOf, cellsOf}
-use Rattle.remap.specs.ScanRoom.{ScanSpan, AcceptedScan, surveyedLedger}
-use Rattle.remap.specs.Tally.{talliedSums}
-use Rattle.remap.specs.TallyRoom.{Tallied, Publishable}
+use Rattle.remap.specs.LentLists.{Lists, Sums}
+use Rattle.remap.specs.Scan.{Scan, raysOf, gatesOf, cellsOf}
+use Rattle.remap.specs.Remap.{ledgerOf, filledLists}
+use Rattle.remap.specs.ScanRefusal.{centresAccepted, qualityAccepted}
+use Rattle.remap.specs.LedgerRoom.{RaysSpan, surveyedLedger}
+use Rattle.remap.specs.Tally.{talliedSums, cleared, addedSums}
+use Rattle.remap.specs.TallyRoom.{Addable, Publishable}
+use Rattle.remap.proofs.AcceptedScan.{AcceptedScan}
 use Rattle.remap.proofs.RayLaws.{gates-length, gates-same, regular-gates}
 use Rattle.remap.proofs.SetsPlaces.{sets-whole}
+use Rattle.remap.proofs.TallyWidth.{GatesMost, count-fits, quality-sum-fits, value-sum-fits}
+use Rattle.remap.proofs.TallyFromNothing.{zeros-at, from-nothing}
 use Rattle.remap.proofs.PublishedRange.{mean-published, quality-published}
 
 -- the last centre is the farthest
@@ -56,18 +60,18 @@ module _ {scan : Scan} {lists : Lists} (good : AcceptedScan scan lists) where
   gate-range : (g : ℕ) → g < scan .head .gates → scan .head .first + g * scan .head .spacing ≤ 46000000
   gate-range g h = centres-most (scan .head .gates) (scan .head .first) (scan .head .spacing) g (good .centres) h
 
-  pub scan-span : ScanSpan (scan .head .gates) (scan .head .first) (scan .head .spacing) 0 (scan .azimuths) (lists .ledger)
+  pub rays-span : RaysSpan (scan .head .gates) (scan .head .first) (scan .head .spacing) 0 (scan .azimuths) (lists .ledger)
   unfolding gatesOf
-  scan-span = record {
+  rays-span = record {
     gates-least = good .gates-least;
     gates-most = good .gates-most;
-    end-most = omega (arith, good .ledger-length, ap (λ (n : ℕ). n * scan .head .gates) (good .azimuths-length));
+    end-most = omega (arith, good .lengths .ledger-length, ap (λ (n : ℕ). n * scan .head .gates) (good .lengths .azimuths-length));
     ranges = gate-range;
   }
 
   ledger-length : length (filledLists scan .ledger) ≡ gatesOf (scan .head)
   unfolding filledLists ledgerOf raysOf gatesOf
-  ledger-length = gates-length _ _ _ _ ∙ regular-gates (scan .head .gates) (scan .azimuths) ∙ ap (λ (n : ℕ). n * scan .head .gates) (good .azimuths-length)
+  ledger-length = gates-length _ _ _ _ ∙ regular-gates (scan .head .gates) (scan .azimuths) ∙ ap (λ (n : ℕ). n * scan .head .gates) (good .lengths .azimuths-length)
 
   surveyed-is : surveyedLedger (surveyOf (scan .head .site) (scan .head .grid)) (scan .head .first) (scan .head .spacing) (regularRays (scan .head .gates) (scan .azimuths)) ≡ filledLists scan .ledger
   unfolding filledLists ledgerOf raysOf surveyedLedger
@@ -76,7 +80,7 @@ module _ {scan : Scan} {lists : Lists} (good : AcceptedScan scan lists) where
       (λ azimuth g a h. accepted-entry (scan .head) azimuth (scan .head .first + g * scan .head .spacing) (gate-accepted (scan .head) azimuth g (good .centres) (good .site) (good .grid) a h))
 
   pub ledger-is : sets (lists .ledger) 0 (surveyedLedger (surveyOf (scan .head .site) (scan .head .grid)) (scan .head .first) (scan .head .spacing) (regularRays (scan .head .gates) (scan .azimuths))) ≡ filledLists scan .ledger
-  ledger-is = rw surveyed-is (sets-whole (lists .ledger) _ (ledger-length ∙ sym (good .ledger-length)))
+  ledger-is = rw surveyed-is (sets-whole (lists .ledger) _ (ledger-length ∙ sym (good .lengths .ledger-length)))
 
   gates-most : gatesOf (scan .head) ≤ 720000
   unfolding gatesOf
@@ -89,19 +93,28 @@ module _ {scan : Scan} {lists : Lists} (good : AcceptedScan scan lists) where
   -- ---- the sums, over the ledger that was written
 
   module _ {written : List ℕ} (ledger-written : written ≡ filledLists scan .ledger) where
-    pub tallied : Tallied written (scan .values) (scan .qualities) (lists .sums)
-    tallied = record {
-      gates-most = rw (ledger-written, ledger-length) gates-most;
-      values-length = good .values-length ∙ sym ledger-length ∙ ap (λ (l : List ℕ). length l) (sym ledger-written);
-      qualities-length = good .qualities-length ∙ sym ledger-length ∙ ap (λ (l : List ℕ). length l) (sym ledger-written);
-      quality-sums-length = good .quality-sums-length ∙ sym (good .counts-length);
-      value-sums-length = good .value-sums-length ∙ sym (good .counts-length);
-      qualities-most = qualities-most;
-    }
+    written-length : length written ≡ gatesOf (scan .head)
+    written-length = ap length ledger-written ∙ ledger-length
 
-    pub sums-are : talliedSums (scan .head .weighting) written (scan .values) (scan .qualities) (length (lists .sums .counts)) ≡ filledLists scan .sums
+    pub addable : ((k : ℕ) → getD (scan .values) k 0 ≤ 65535) → Addable (scan .head .weighting) written (scan .values) (scan .qualities) (cleared (lists .sums))
+    unfolding cleared
+    addable small =
+        let most : GatesMost written (scan .values) (scan .qualities) = record { gates-most = rw written-length gates-most; values-most = small; qualities-most = qualities-most } in
+        record {
+          values-length = good .lengths .values-length ∙ sym written-length;
+          qualities-length = good .lengths .qualities-length ∙ sym written-length;
+          quality-sums-length = simp length-replicate (good .lengths .quality-sums-length ∙ sym (good .lengths .counts-length));
+          value-sums-length = simp length-replicate (good .lengths .value-sums-length ∙ sym (good .lengths .counts-length));
+          counts-fit = λ cell. omega (arith, zeros-at (length (lists .sums .counts)) cell, count-fits most cell);
+          quality-sums-fit = λ cell. omega (arith, zeros-at (length (lists .sums .qualitySums)) cell, quality-sum-fits most cell);
+          value-sums-fit = λ cell. omega (arith, zeros-at (length (lists .sums .valueSums)) cell, value-sum-fits most (scan .head .weighting) cell);
+        }
+
+    pub sums-are : addedSums (scan .head .weighting) written (scan .values) (scan .qualities) (cleared (lists .sums)) ≡ filledLists scan .sums
     unfolding filledLists
-    sums-are = rw (ledger-written, good .counts-length)
+    sums-are =
+        let lengths = good .lengths in
+        rw ledger-written (from-nothing _ _ _ _ (lists .sums) (lengths .counts-length) (lengths .quality-sums-length) (lengths .value-sums-length))
 
   -- ---- the published cells, of the sums that were written
 
@@ -109,26 +122,26 @@ module _ {scan : Scan} {lists : Lists} (good : AcceptedScan scan lists) where
     pub publishable : Publishable sums (lists .cells)
     unfolding filledLists talliedSums
     publishable =
-        let m = sym (good .means-length) in
+        let m = sym (good .lengths .means-length) in
         rw sums-written (record {
           counts-length = table-length _ (cellsOf (scan .head)) ∙ m;
           quality-sums-length = table-length _ (cellsOf (scan .head)) ∙ m;
           value-sums-length = table-length _ (cellsOf (scan .head)) ∙ m;
-          cell-qualities-length = good .cell-qualities-length ∙ m;
+          cell-qualities-length = good .lengths .cell-qualities-length ∙ m;
         })
 
     means-are : ((k : ℕ) → getD (scan .values) k 0 ≤ 65535) → publishedCells (scan .head .weighting) sums (length (lists .cells .means)) .means ≡ filledLists scan .cells .means
     unfolding filledLists talliedSums publishedCells
     means-are small =
         let n = cellsOf (scan .head) in
-        rw (sums-written, good .means-length) (table-ext _ _ n (λ c h.
+        rw (sums-written, good .lengths .means-length) (table-ext _ _ n (λ c h.
         rw (table-at _ n c h, table-at _ n c h, table-at _ n c h) (mean-published _ (scan .values) (scan .qualities) c (scan .head .weighting) small)))
 
     qualities-are : publishedCells (scan .head .weighting) sums (length (lists .cells .means)) .qualities ≡ filledLists scan .cells .qualities
     unfolding filledLists talliedSums publishedCells
     qualities-are =
         let n = cellsOf (scan .head) in
-        rw (sums-written, good .means-length) (table-ext _ _ n (λ c h.
+        rw (sums-written, good .lengths .means-length) (table-ext _ _ n (λ c h.
         rw (table-at _ n c h, table-at _ n c h) (quality-published _ (scan .values) (scan .qualities) c qualities-most)))
 
     pub cells-are : ((k : ℕ) → getD (scan .values) k 0 ≤ 65535) → publishedCells (scan .head .weighting) sums (length (lists .cells .means)) ≡ filledLists scan .cells

@@ -1,22 +1,22 @@
 -- What is accepted of a scan, as bounds of its numbers; and a scan that is not refused is accepted. Assumes nothing.
 use mathlib.Core.Path.{_≡_, refl}
 use mathlib.Core.Bool.{Bool, true, false, _&&_, cond}
-use Prim.Native.Nat.{ℕ, suc}
+use Prim.Native.Nat.{ℕ, suc, _≤_}
 use native.Mathlib.Omega.{arith}
 use borrow.Author.Tests.{eqb-true, eq-eqb}
 use lib.Dec.{eqb}
+use Rattle.arithmetic.specs.Places.{allOf}
 use Rattle.arithmetic.proofs.Test.{and-true}
 use Rattle.placement.specs.declared.grid.Grid.{Grid}
 use Rattle.placement.specs.declared.grid.Grid.the-variants.{Radolan, Hrap}
-use Rattle.placement.specs.Refusal.{inRange, siteAccepted, gridAccepted, firstRefusal}
+use Rattle.placement.specs.Refusal.{inRange, azimuthAccepted, siteAccepted, gridAccepted, firstRefusal}
 use Rattle.placement.specs.Window.{windowOf}
 use Rattle.placement.proofs.Accepted.{AcceptedSize, range-bounds, accepted-radolan, accepted-hrap}
 use Rattle.remap.specs.declared.scan.Lengths.{Lengths}
 use Rattle.remap.specs.declared.scan.ScanHead.{ScanHead}
-use Rattle.remap.specs.Lent.{Lists}
-use Rattle.remap.specs.Remap.{Scan, lengthsOf, refusalFor}
-use Rattle.remap.specs.Scan.{centresAccepted, gatesOf, cellsOf, listsAccepted, lengthsAccepted, scanNumber, scanRefusal}
-use Rattle.remap.specs.ScanRoom.{AcceptedScan}
+use Rattle.remap.specs.LentLists.{Lists}
+use Rattle.remap.specs.Scan.{Scan, gatesOf, cellsOf}
+use Rattle.remap.specs.ScanRefusal.{centresAccepted, qualityAccepted, listsAccepted, lengthsAccepted, lengthsOf, listsExact, scanNumber, scanRefusal, refusalFor}
 
 -- ---- the grid's size
 
@@ -151,12 +151,23 @@ accepted-numbers head lengths azimuths qualities e =
       qualities-accepted = qualities-tested .0;
     }
 
+-- a scan that is not refused, with the lists that are lent for it
+pub record AcceptedScan (scan : Scan) (lists : Lists) : Type 0 where
+  pub rays-most : scan .head .rays ≤ 720
+  pub gates-least : 1 ≤ scan .head .gates
+  pub gates-most : scan .head .gates ≤ 1000
+  pub centres : centresAccepted (scan .head .gates) (scan .head .first) (scan .head .spacing) ≡ true
+  pub site : siteAccepted (scan .head .site) ≡ true
+  pub grid : gridAccepted (scan .head .grid) ≡ true
+  pub lengths : AcceptedLengths (scan .head) (lengthsOf scan lists)
+  pub azimuths-good : allOf azimuthAccepted (scan .azimuths) ≡ true
+  pub qualities-good : allOf qualityAccepted (scan .qualities) ≡ true
+
 pub accepted-scan : (scan : Scan) (lists : Lists) → refusalFor scan lists ≡ 0 → AcceptedScan scan lists
-unfolding refusalFor lengthsOf scanRefusal
+unfolding refusalFor scanRefusal listsExact
 accepted-scan scan lists e =
     let numbers = accepted-numbers (scan .head) _ _ _ e in
     let gates-bounds = range-bounds 1 1000 (scan .head .gates) (numbers .gates-accepted) in
-    let known = accepted-lengths (scan .head) _ (numbers .lengths-accepted) in
     record {
       rays-most = range-bounds 1 720 (scan .head .rays) (numbers .rays-accepted) .1;
       gates-least = gates-bounds .0;
@@ -164,15 +175,7 @@ accepted-scan scan lists e =
       centres = numbers .centres-accepted;
       site = numbers .site-accepted;
       grid = numbers .grid-accepted;
-      azimuths-length = known .azimuths-length;
-      values-length = known .values-length;
-      qualities-length = known .qualities-length;
-      ledger-length = known .ledger-length;
-      counts-length = known .counts-length;
-      quality-sums-length = known .quality-sums-length;
-      value-sums-length = known .value-sums-length;
-      means-length = known .means-length;
-      cell-qualities-length = known .cell-qualities-length;
+      lengths = accepted-lengths (scan .head) (lengthsOf scan lists) (numbers .lengths-accepted);
       azimuths-good = numbers .azimuths-accepted;
       qualities-good = numbers .qualities-accepted;
     }

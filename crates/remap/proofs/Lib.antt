@@ -5,9 +5,9 @@ pub mod ScanLedger
 pub mod TallyTurn
 pub mod TallyWidth
 pub mod TallySplit
+pub mod TallyFromNothing
 pub mod CountTotal
 pub mod MeanBetween
 pub mod PublishedRange
 pub mod AcceptedRemap
-pub mod ScanAnswer
 pub mod MarkedCases

@@ -20,16 +20,18 @@ use Rattle.placement.proofs.GateCases.{hrap-meridian, radolan-meridian, mesh-co
 use Rattle.remap.specs.declared.gates.Weighting.{Weighting}
 use Rattle.remap.specs.declared.gates.Weighting.the-variants.{Plain, ByQuality}
 use Rattle.remap.specs.Gates.{isMeasured, echoOf, weighed}
-use Rattle.remap.specs.MarkedCases.{exampleHead, example, exampleScan, exampleWith, scanRefused, CellsHold, Holds, AllHold, markedCases}
+use Rattle.remap.specs.MarkedCases.{exampleHead, example, exampleScan, exampleWith, RefusedBy, CellsHold, Holds, AllHold, markedCases}
 use Rattle.remap.specs.Publish.{meanOf, divisorOf, qualityOf}
 use Rattle.remap.specs.Rays.{rayGates, allGates, regularRays}
-use Rattle.remap.specs.Remap.{raysOf, ledgerOf, filledLists, afterwards}
-use Rattle.remap.specs.Scan.{centresAccepted, gatesOf, cellsOf, listsAccepted, lengthsAccepted, qualityAccepted, scanNumber, scanRefusal}
+use Rattle.remap.specs.Scan.{raysOf, cellsOf}
+use Rattle.remap.specs.Remap.{ledgerOf, filledLists}
+use Rattle.placement.specs.Answer.{afterwards}
+use Rattle.remap.specs.ScanRefusal.{centresAccepted, qualityAccepted, scanNumber, scanRefusal, refusalFor}
 use Rattle.remap.specs.Tally.{contributes, sumOver, countOf, qualitySumOf, valueSumOf, talliedSums}
 
 -- both gates lie in cell 1
-example-ledger : (weighting : Weighting) → ledgerOf (example weighting) (raysOf (example weighting) (0 ∷ [])) ≡ 1 ∷ 1 ∷ []
-unfolding ledgerOf raysOf regularRays allGates rayGates flatMap table example exampleHead exampleGrid entryOf placementOf unlessRefused gateRefusal firstRefusal rangeAccepted siteAccepted gridAccepted sizeAccepted azimuthAccepted inRange inSignedRange windowOf located inWindow inSpan cellNumber column row indexOf sphereOf hrapSphere positionOf positionBy siteTerms rayTerms arcTerms d d2 d3 d4 d5 sd cd w e n m u v divisor X Y cosineOf sineOf byQuarters inTurn inQuarter _modulo_ quarterSine S F G nearest sineSeries cosineSeries alternating term factorial arc arcUnit _⊕_ opposite
+example-ledger : (weighting : Weighting) → ledgerOf (example weighting) (regularRays 2 (0 ∷ [])) ≡ 1 ∷ 1 ∷ []
+unfolding ledgerOf regularRays allGates rayGates flatMap table example exampleHead exampleGrid entryOf placementOf unlessRefused gateRefusal firstRefusal rangeAccepted siteAccepted gridAccepted sizeAccepted azimuthAccepted inRange inSignedRange windowOf located inWindow inSpan cellNumber column row indexOf sphereOf hrapSphere positionOf positionBy siteTerms rayTerms arcTerms d d2 d3 d4 d5 sd cd w e n m u v divisor X Y cosineOf sineOf byQuarters inTurn inQuarter _modulo_ quarterSine S F G nearest sineSeries cosineSeries alternating term factorial arc arcUnit _⊕_ opposite
 example-ledger weighting = refl
 
 -- ---- the table
@@ -39,19 +41,19 @@ _and_ : {A B : Type 0} → A → B → A × B
 a and b = (a, b)
 
 pub every-case : AllHold markedCases
-unfolding AllHold markedCases Holds GateHolds CellsHold exampleGrid anyRadolan exampleHead example exampleScan exampleWith scanRefused afterwards filledLists talliedSums table meanOf divisorOf qualityOf countOf qualitySumOf valueSumOf sumOver sumTo contributes isMeasured echoOf weighed scanRefusal scanNumber centresAccepted gatesOf cellsOf lengthsAccepted listsAccepted qualityAccepted allOf gateRefusal firstRefusal rangeAccepted siteAccepted gridAccepted sizeAccepted azimuthAccepted inRange inSignedRange windowOf indexOf sphereOf hrapSphere radolanSphere
+unfolding AllHold markedCases Holds GateHolds CellsHold exampleGrid anyRadolan exampleHead example exampleScan exampleWith RefusedBy afterwards filledLists talliedSums table meanOf divisorOf qualityOf countOf qualitySumOf valueSumOf sumOver sumTo contributes isMeasured echoOf weighed raysOf refusalFor scanRefusal scanNumber centresAccepted cellsOf qualityAccepted allOf gateRefusal firstRefusal rangeAccepted siteAccepted gridAccepted sizeAccepted azimuthAccepted inRange inSignedRange windowOf indexOf sphereOf hrapSphere radolanSphere
 every-case =
     hrap-meridian and mesh-column-of-zero and radolan-meridian and west-of-edge and on-edge and refl and refl
-    and (λ before. rw (example-ledger Plain) refl)
-    and (λ before. rw (example-ledger ByQuality) refl)
-    and (λ before. rw (example-ledger ByQuality) refl)
-    and (λ before. rw (example-ledger ByQuality) refl)
-    and (λ before. rw (example-ledger ByQuality) refl)
-    and (λ before. rw (example-ledger ByQuality) refl)
-    and (λ before. rw (example-ledger Plain) refl)
-    and refl and refl and refl and refl
-    and refl and refl and refl and refl and refl and refl and refl and refl
-    and refl and refl and refl and refl
-    and refl
-    and refl
+    and (λ lists exact. rw (exact, example-ledger Plain))
+    and (λ lists exact. rw (exact, example-ledger ByQuality))
+    and (λ lists exact. rw (exact, example-ledger ByQuality))
+    and (λ lists exact. rw (exact, example-ledger ByQuality))
+    and (λ lists exact. rw (exact, example-ledger ByQuality))
+    and (λ lists exact. rw (exact, example-ledger ByQuality))
+    and (λ lists exact. rw (exact, example-ledger Plain))
+    and (λ lists exact. rw exact) and (λ lists exact. refl) and refl and refl
+    and (λ lists exact. rw exact) and (λ lists exact. rw exact) and (λ lists exact. refl) and (λ lists exact. refl) and refl and refl and refl and refl
+    and (λ lists exact. rw exact) and (λ lists exact. rw exact) and refl and refl
+    and (λ lists exact. rw exact)
+    and (λ lists exact. refl)
     and tt

@@ -12,7 +12,7 @@ use Rattle.arithmetic.proofs.SetsLaws.{sets-append}
 use Rattle.placement.specs.declared.survey.Survey.{Survey}
 use Rattle.placement.specs.Survey.{RaySpan, surveyedRay}
 use Rattle.remap.specs.Rays.{Ray, rayGates, allGates, regularRays}
-use Rattle.remap.specs.ScanRoom.{ScanSpan, surveyedLedger}
+use Rattle.remap.specs.LedgerRoom.{RaysSpan, surveyedLedger}
 
 -- the rays that are left to be written
 abbrev pub rest : Survey → ℕ → ℕ → ℕ → List ℕ → ℕ → List ℕ
@@ -38,7 +38,7 @@ module _ (survey : Survey) (gates first spacing : ℕ) (azimuths : List ℕ) whe
 pub ray-end : (ray rays gates : ℕ) → ray < rays → ray * gates + gates ≤ rays * gates
 ray-end ray rays gates h = omega (arith, mul-le-mul-right gates h)
 
-pub ray-span : {gates first spacing from : ℕ} {azimuths ledger₀ : List ℕ} (ray start : ℕ) (ledger : List ℕ) → ScanSpan gates first spacing from azimuths ledger₀ → ray < length azimuths → start ≡ from + ray * gates → length ledger ≡ length ledger₀ → RaySpan first spacing start (start + gates) ledger
+pub ray-span : {gates first spacing from : ℕ} {azimuths ledger₀ : List ℕ} (ray start : ℕ) (ledger : List ℕ) → RaysSpan gates first spacing from azimuths ledger₀ → ray < length azimuths → start ≡ from + ray * gates → length ledger ≡ length ledger₀ → RaySpan first spacing start (start + gates) ledger
 ray-span {gates} {first} {spacing} {from} {azimuths} ray start ledger span h e s = record {
   start-end = omega arith;
   gates-most = omega (arith, span .gates-most);

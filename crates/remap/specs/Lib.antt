@@ -1,10 +1,11 @@
-pub mod Scan
 pub mod Rays
+pub mod Scan
+pub mod LentLists
+pub mod ScanRefusal
 pub mod Gates
-pub mod Lent
 pub mod Tally
-pub mod TallyRoom
 pub mod Publish
 pub mod Remap
-pub mod ScanRoom
+pub mod LedgerRoom
+pub mod TallyRoom
 pub mod MarkedCases

@@ -1,16 +1,18 @@
 -- Document 01, "On both sides of the line": the table of the cases marked with a star. Assumes nothing.
+use mathlib.Core.Bool.{true}
 use mathlib.Core.List.{List, [], _∷_}
 use mathlib.Core.Path.{_≡_}
 use Prim.Native.Nat.{ℕ, _-_}
 use lib.IntN.{ℤ, pos, negsuc}
-use lib.ListN.{length}
+use Rattle.placement.specs.Answer.{afterwards}
 use Rattle.placement.specs.GateCases.{GateCase, xIsZero, meshColumnOfZero, columnAt, rangeRefusal, latitudeRefusal, azimuthRefusal, exampleGrid, anyRadolan, GateHolds}
 use Rattle.remap.specs.declared.gates.Weighting.{Weighting}
 use Rattle.remap.specs.declared.gates.Weighting.the-variants.{Plain, ByQuality}
 use Rattle.remap.specs.declared.scan.ScanHead.{ScanHead}
-use Rattle.remap.specs.Lent.{Lists}
-use Rattle.remap.specs.Remap.{Scan, filledLists, afterwards}
-use Rattle.remap.specs.Scan.{gatesOf, cellsOf, scanRefusal}
+use Rattle.remap.specs.LentLists.{Lists}
+use Rattle.remap.specs.Remap.{filledLists}
+use Rattle.remap.specs.Scan.{Scan}
+use Rattle.remap.specs.ScanRefusal.{listsExact, refusalFor}
 
 pub data MarkedCase : Type 0 where
   -- a case of a single gate
@@ -57,36 +59,25 @@ exampleScan head values qualities = record { head = head; azimuths = 0 ∷ []; v
 unfoldable pub exampleWith : ScanHead → Scan
 exampleWith head = exampleScan head (1 ∷ 7 ∷ []) (90 ∷ 10 ∷ [])
 
--- the refusal of a scan whose lent lists have the right lengths
-unfoldable pub scanRefused : Scan → ℕ
-scanRefused scan =
-    scanRefusal (scan .head) (scan .azimuths) (scan .qualities) (record {
-      azimuths = length (scan .azimuths);
-      values = length (scan .values);
-      qualities = length (scan .qualities);
-      ledger = gatesOf (scan .head);
-      counts = cellsOf (scan .head);
-      «quality_sums» = cellsOf (scan .head);
-      «value_sums» = cellsOf (scan .head);
-      means = cellsOf (scan .head);
-      «cell_qualities» = cellsOf (scan .head);
-    })
+-- the refusal number of the scan, or 0 where it passes, with any lent lists of the right lengths
+unfoldable pub RefusedBy : Scan → ℕ → Type 0
+RefusedBy scan number = (lists : Lists) → listsExact scan lists ≡ true → refusalFor scan lists ≡ number
 
--- what a lent list of the two cells holds afterwards, whatever it held before: cell 0 is empty
+-- what such a list of the two cells holds afterwards, whatever it held before: cell 0 is empty
 unfoldable pub CellsHold : Scan → (Lists → List ℕ) → ℕ → ℕ → Type 0
 CellsHold scan list empty given =
-    (before : Lists) → list (afterwards (scanRefused scan) before (filledLists scan)) ≡ empty ∷ given ∷ []
+    (lists : Lists) → listsExact scan lists ≡ true → list (afterwards (refusalFor scan lists) lists (filledLists scan)) ≡ empty ∷ given ∷ []
 
 unfoldable pub Holds : MarkedCase → Type 0
 Holds (aGate case) = GateHolds case
 Holds (cellMean weighting values qualities mean) = CellsHold (exampleScan (example weighting) values qualities) (λ lists. lists .cells .means) 65535 mean
 Holds (cellQuality weighting values qualities quality) = CellsHold (exampleScan (example weighting) values qualities) (λ lists. lists .cells .qualities) 0 quality
 Holds (cellCount weighting values qualities count) = CellsHold (exampleScan (example weighting) values qualities) (λ lists. lists .sums .counts) 0 count
-Holds (scanLastCentre given number) = scanRefused (exampleWith (exampleHead (pos 600000) 1 given ByQuality)) ≡ number
-Holds (scanLatitude given number) = scanRefused (exampleWith (exampleHead given 1 100000 ByQuality)) ≡ number
-Holds (scanAzimuth given number) = scanRefused (record { head = example ByQuality; azimuths = given ∷ []; values = 1 ∷ 7 ∷ []; qualities = 90 ∷ 10 ∷ [] }) ≡ number
-Holds (scanQualities values qualities number) = scanRefused (exampleScan (example ByQuality) values qualities) ≡ number
-Holds (scanWithoutRays latitude number) = scanRefused (record { head = exampleHead latitude 0 100000 ByQuality; azimuths = []; values = []; qualities = [] }) ≡ number
+Holds (scanLastCentre given number) = RefusedBy (exampleWith (exampleHead (pos 600000) 1 given ByQuality)) number
+Holds (scanLatitude given number) = RefusedBy (exampleWith (exampleHead given 1 100000 ByQuality)) number
+Holds (scanAzimuth given number) = RefusedBy (record { head = example ByQuality; azimuths = given ∷ []; values = 1 ∷ 7 ∷ []; qualities = 90 ∷ 10 ∷ [] }) number
+Holds (scanQualities values qualities number) = RefusedBy (exampleScan (example ByQuality) values qualities) number
+Holds (scanWithoutRays latitude number) = RefusedBy (record { head = exampleHead latitude 0 100000 ByQuality; azimuths = []; values = []; qualities = [] }) number
 
 unfoldable pub AllHold : List MarkedCase → Type 0
 AllHold [] = Unit {0}

@@ -6,7 +6,7 @@ use lib.ListN.{getD}
 use Rattle.arithmetic.specs.Places.{table}
 use Rattle.remap.specs.declared.gates.Weighting.{Weighting}
 use Rattle.remap.specs.declared.gates.Weighting.the-variants.{Plain, ByQuality}
-use Rattle.remap.specs.Lent.{Sums, Cells}
+use Rattle.remap.specs.LentLists.{Sums, Cells}
 
 -- floor(value sum / divisor), or 65,535 with a zero divisor
 unfoldable pub meanOf : ℕ → ℕ → ℕ

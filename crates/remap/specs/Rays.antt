@@ -3,7 +3,7 @@ use mathlib.Core.List.{List, [], _∷_, map, flatMap}
 use Prim.Native.Nat.{ℕ, _+_, _*_}
 use Rattle.arithmetic.specs.Places.{table}
 
--- T-07 adds the elevation
+-- a ray of its own number of gates
 pub record Ray : Type 0 where
   pub azimuth : ℕ
   pub gates : ℕ

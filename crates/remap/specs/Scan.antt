@@ -1,58 +1,27 @@
--- Document 01, "The scan" for what is allowed, "Refusal numbers" for the order of a scan's checks. Assumes nothing.
-use mathlib.Core.Bool.{Bool, _&&_}
-use mathlib.Core.List.{List, [], _∷_}
-use Prim.Native.Nat.{ℕ, _+_, _*_, _-_}
-use lib.Dec.{leb, eqb}
-use Rattle.arithmetic.specs.Places.{allOf}
-use Rattle.placement.specs.Refusal.{inRange, azimuthAccepted, siteAccepted, gridAccepted, _unless_, firstRefusal}
+-- Document 01, "The scan": a scan with its lists as given, its rays, how many gates and cells it has. Assumes nothing.
+use mathlib.Core.List.{List}
+use Prim.Native.Nat.{ℕ, _*_}
+use denote.Ref.{now}
 use Rattle.placement.specs.Window.{windowOf}
 use Rattle.remap.specs.declared.scan.ScanHead.{ScanHead}
-use Rattle.remap.specs.declared.scan.Lengths.{Lengths}
+use Rattle.remap.specs.LentLists.{Slice}
+use Rattle.remap.specs.Rays.{Ray, regularRays}
 
--- first centre 0 to 46,000,000, spacing 1 to 1,000,000, last centre at most 46,000,000
-unfoldable pub centresAccepted : ℕ → ℕ → ℕ → Bool
-centresAccepted gates first spacing =
-    leb first 46000000 && inRange 1 1000000 spacing && leb (first + (gates - 1) * spacing) 46000000
+-- an azimuth for each ray; a value and a quality for each gate, ray by ray
+pub record Scan : Type 0 where
+  pub head : ScanHead
+  pub azimuths : List ℕ
+  pub values : List ℕ
+  pub qualities : List ℕ
+
+abbrev pub scanHeld : ScanHead → Slice → Slice → Slice → Scan
+scanHeld head azimuths values qualities = record { head = head; azimuths = now azimuths; values = now values; qualities = now qualities }
+
+unfoldable pub raysOf : Scan → List Ray
+raysOf scan = regularRays (scan .head .gates) (scan .azimuths)
 
 unfoldable pub gatesOf : ScanHead → ℕ
 gatesOf head = head .rays * head .gates
 
 unfoldable pub cellsOf : ScanHead → ℕ
 cellsOf head = windowOf (head .grid) .columns * windowOf (head .grid) .rows
-
--- the exact lengths: rays; rays x gates
-unfoldable pub listsAccepted : ScanHead → ℕ → ℕ → ℕ → Bool
-listsAccepted head azimuths values qualities =
-    eqb azimuths (head .rays) && eqb values (gatesOf head) && eqb qualities (gatesOf head)
-
--- those of all lists: the ledger rays x gates too; each cell list columns x rows
-unfoldable pub lengthsAccepted : ScanHead → Lengths → Bool
-lengthsAccepted head given =
-    listsAccepted head (given .azimuths) (given .values) (given .qualities)
-    && eqb (given .ledger) (gatesOf head)
-    && eqb (given .counts) (cellsOf head)
-    && eqb (given .«quality_sums») (cellsOf head)
-    && eqb (given .«value_sums») (cellsOf head)
-    && eqb (given .means) (cellsOf head)
-    && eqb (given .«cell_qualities») (cellsOf head)
-
-unfoldable pub qualityAccepted : ℕ → Bool
-qualityAccepted quality = leb quality 100
-
--- the lowest number that applies: of the numbers, of the lists' lengths, of the azimuths and of the qualities
-unfoldable pub scanNumber : ScanHead → Bool → Bool → Bool → ℕ
-scanNumber head lengths azimuths qualities =
-    firstRefusal (
-    (1 unless inRange 1 720 (head .rays))
-    ∷ (2 unless inRange 1 1000 (head .gates))
-    ∷ (3 unless centresAccepted (head .gates) (head .first) (head .spacing))
-    ∷ (4 unless siteAccepted (head .site))
-    ∷ (5 unless gridAccepted (head .grid))
-    ∷ (6 unless lengths)
-    ∷ (7 unless azimuths)
-    ∷ (8 unless qualities)
-    ∷ [])
-
-unfoldable pub scanRefusal : ScanHead → List ℕ → List ℕ → Lengths → ℕ
-scanRefusal head azimuths qualities given =
-    scanNumber head (lengthsAccepted head given) (allOf azimuthAccepted azimuths) (allOf qualityAccepted qualities)

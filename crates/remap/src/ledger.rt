@@ -5,7 +5,7 @@ ghost use mathlib.Core.Path.{_≡_};
 ghost use lib.Seq.{sets};
 ghost use Rattle.placement.specs.Survey.{Surveyed};
 ghost use Rattle.remap.specs.Rays.{regularRays};
-ghost use Rattle.remap.specs.ScanRoom.{ScanSpan, surveyedLedger};
+ghost use Rattle.remap.specs.LedgerRoom.{RaysSpan, surveyedLedger};
 
 pub fn scan_ledger(
     survey: Survey,
@@ -16,7 +16,7 @@ pub fn scan_ledger(
     ledger: &mut [u32],
     from: usize,
 )
-    requires { ⌜ Surveyed survey × ScanSpan gates first spacing from (now azimuths) (now ledger) ⌝ }
+    requires { ⌜ Surveyed survey × RaysSpan gates first spacing from (now azimuths) (now ledger) ⌝ }
     ensures { λ _. ⌜ now (ledger .exit) ≡ sets (now (ledger .entry)) from (surveyedLedger survey first spacing (regularRays gates (now (azimuths .entry)))) ⌝ }
 {
     let step = gates as usize;

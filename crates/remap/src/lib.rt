@@ -1,4 +1,5 @@
 // A scan to its ledger, sums and cells.
+mod clear;
 mod gates;
 mod ledger;
 mod publish;

@@ -4,7 +4,7 @@ ghost use mathlib.Core.Path.{_≡_};
 ghost use lib.ListN.{length, getD};
 ghost use Rattle.arithmetic.specs.Places.{table};
 ghost use Rattle.remap.specs.Publish.{divisorOf, publishedMean, publishedQuality, publishedCells};
-ghost use Rattle.remap.specs.Lent.{sumsIn, cellsIn, lentCells};
+ghost use Rattle.remap.specs.LentLists.{sumsHeld, cellsHeld, lentCells};
 ghost use Rattle.remap.specs.TallyRoom.{Publishable};
 
 // Means and qualities of all cells, of any counts and sums.
@@ -16,8 +16,8 @@ pub fn publish(
     means: &mut [u16],
     cell_qualities: &mut [u8],
 )
-    requires { ⌜ Publishable (sumsIn counts «quality_sums» «value_sums») (cellsIn means «cell_qualities») ⌝ }
-    ensures { λ _. ⌜ lentCells means «cell_qualities» .exit ≡ publishedCells weighting (sumsIn (counts .entry) («quality_sums» .entry) («value_sums» .entry)) (length (now (means .entry))) ⌝ }
+    requires { ⌜ Publishable (sumsHeld counts «quality_sums» «value_sums») (cellsHeld means «cell_qualities») ⌝ }
+    ensures { λ _. ⌜ lentCells means «cell_qualities» .exit ≡ publishedCells weighting (sumsHeld (counts .entry) («quality_sums» .entry) («value_sums» .entry)) (length (now (means .entry))) ⌝ }
 {
     publish_means(weighting, counts, quality_sums, value_sums, means);
     publish_qualities(counts, quality_sums, cell_qualities);

@@ -1,4 +1,5 @@
 // The whole scan: one scan, one site and one grid come in; out come the ledger, the cell sums and the published cells.
+use crate::clear::clear_sums;
 use crate::ledger::scan_ledger;
 use crate::publish::publish;
 use crate::scan::Lengths;
@@ -10,9 +11,10 @@ use crate::scan::qualities_accepted;
 use crate::scan::scan_refusal;
 use crate::tally::tally;
 ghost use mathlib.Core.Path.{_≡_};
-ghost use Rattle.remap.specs.Lent.{listsOf, lent};
-ghost use Rattle.remap.specs.Remap.{filledLists, Remaps, scanOf};
-ghost use Rattle.remap.specs.ScanRoom.{AcceptedScan};
+ghost use Rattle.remap.specs.LentLists.{listsHeld, lentLists};
+ghost use Rattle.remap.specs.Remap.{filledLists, Remaps};
+ghost use Rattle.remap.specs.Scan.{scanHeld};
+ghost use Rattle.remap.specs.ScanRefusal.{refusalFor};
 
 // Takes any scan whatever. A refusal gives its number only and leaves every lent list as it came in.
 pub fn remap(
@@ -28,8 +30,8 @@ pub fn remap(
     cell_qualities: &mut [u8],
 ) -> Remapped
     ensures { λ r. ⌜ Remaps
-        (scanOf head (azimuths .entry) (values .entry) (qualities .entry))
-        (lent ledger counts «quality_sums» «value_sums» means «cell_qualities») r ⌝ }
+        (scanHeld head (azimuths .entry) (values .entry) (qualities .entry))
+        (lentLists ledger counts «quality_sums» «value_sums» means «cell_qualities») r ⌝ }
 {
     let given = Lengths {
         azimuths: azimuths.len(),
@@ -80,8 +82,8 @@ fn accepted_remap(
     means: &mut [u16],
     cell_qualities: &mut [u8],
 )
-    requires { ⌜ AcceptedScan (scanOf head azimuths values qualities) (listsOf ledger counts «quality_sums» «value_sums» means «cell_qualities») ⌝ }
-    ensures { λ _. ⌜ lent ledger counts «quality_sums» «value_sums» means «cell_qualities» .exit ≡ filledLists (scanOf head (azimuths .entry) (values .entry) (qualities .entry)) ⌝ }
+    requires { ⌜ refusalFor (scanHeld head azimuths values qualities) (listsHeld ledger counts «quality_sums» «value_sums» means «cell_qualities») ≡ 0 ⌝ }
+    ensures { λ _. ⌜ lentLists ledger counts «quality_sums» «value_sums» means «cell_qualities» .exit ≡ filledLists (scanHeld head (azimuths .entry) (values .entry) (qualities .entry)) ⌝ }
 {
     let site = head.site;
     let grid = head.grid;
@@ -96,6 +98,7 @@ fn accepted_remap(
         ledger,
         0,
     );
+    clear_sums(counts, quality_sums, value_sums);
     tally(
         weighting,
         ledger,

@@ -6,7 +6,8 @@ ghost use mathlib.Core.Path.{_≡_};
 ghost use Prim.Native.Nat.{_≤_, _*_};
 ghost use Rattle.arithmetic.specs.Places.{allOf};
 ghost use Rattle.placement.specs.Refusal.{azimuthAccepted};
-ghost use Rattle.remap.specs.Scan.{centresAccepted, gatesOf, cellsOf, listsAccepted, lengthsAccepted, qualityAccepted, scanNumber};
+ghost use Rattle.remap.specs.ScanRefusal.{centresAccepted, listsAccepted, lengthsAccepted, qualityAccepted, scanNumber};
+ghost use Rattle.remap.specs.Scan.{gatesOf, cellsOf};
 
 // What a scan is besides its lists.
 pub struct ScanHead {

@@ -2,12 +2,11 @@
 use crate::gates::Weighting;
 use crate::gates::weigh;
 ghost use mathlib.Core.Path.{_≡_};
-ghost use lib.ListN.{length, replicate};
-ghost use Rattle.remap.specs.Lent.{sumsIn, lentSums};
-ghost use Rattle.remap.specs.Tally.{talliedSums};
-ghost use Rattle.remap.specs.TallyRoom.{Tallied};
+ghost use Rattle.remap.specs.LentLists.{sumsHeld, lentSums};
+ghost use Rattle.remap.specs.Tally.{addedSums};
+ghost use Rattle.remap.specs.TallyRoom.{Addable};
 
-// Tallies start from nothing: what the lent lists held before plays no part.
+// Adds gates onto what the sums hold.
 pub fn tally(
     weighting: Weighting,
     ledger: &[u32],
@@ -17,12 +16,11 @@ pub fn tally(
     quality_sums: &mut [u32],
     value_sums: &mut [u64],
 )
-    requires { ⌜ Tallied (now ledger) (now values) (now qualities) (sumsIn counts «quality_sums» «value_sums») ⌝ }
-    ensures { λ _. ⌜ lentSums counts «quality_sums» «value_sums» .exit ≡ talliedSums weighting (now (ledger .entry)) (now (values .entry)) (now (qualities .entry)) (length (now (counts .entry))) ⌝ }
+    requires { ⌜ Addable weighting (now ledger) (now values) (now qualities) (sumsHeld counts «quality_sums» «value_sums») ⌝ }
+    ensures { λ _.
+        let sums = lentSums counts «quality_sums» «value_sums» in
+        ⌜ sums .exit ≡ addedSums weighting (now (ledger .entry)) (now (values .entry)) (now (qualities .entry)) (sums .entry) ⌝ }
 {
-    clear32(counts);
-    clear32(quality_sums);
-    clear64(value_sums);
     let mut k = 0;
     while k < ledger.len() {
         let cell = ledger[k] as usize;
@@ -39,26 +37,6 @@ pub fn tally(
         counts[cell] = counts[cell] + 1;
         quality_sums[cell] = quality_sums[cell] + quality as u32;
         value_sums[cell] = value_sums[cell] + weigh(weighting, value, quality);
-        k += 1;
-    }
-}
-
-fn clear32(xs: &mut [u32])
-    ensures { λ _. ⌜ now (xs .exit) ≡ replicate (length (now (xs .entry))) 0 ⌝ }
-{
-    let mut k = 0;
-    while k < xs.len() {
-        xs[k] = 0;
-        k += 1;
-    }
-}
-
-fn clear64(xs: &mut [u64])
-    ensures { λ _. ⌜ now (xs .exit) ≡ replicate (length (now (xs .entry))) 0 ⌝ }
-{
-    let mut k = 0;
-    while k < xs.len() {
-        xs[k] = 0;
         k += 1;
     }
 }

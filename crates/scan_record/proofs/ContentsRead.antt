@@ -21,7 +21,7 @@ use Rattle.placement.proofs.Accepted.{range-bounds, accepted-site, accepted-rad
 use Rattle.remap.specs.declared.gates.Weighting.{Weighting}
 use Rattle.remap.specs.declared.gates.Weighting.the-variants.{Plain, ByQuality}
 use Rattle.remap.specs.declared.scan.ScanHead.{ScanHead}
-use Rattle.remap.specs.Scan.{centresAccepted}
+use Rattle.remap.specs.ScanRefusal.{centresAccepted}
 use Rattle.scan_record.specs.BigEndian.{bytesOf, signedBytesOf, numberAt}
 use Rattle.scan_record.specs.RecordBytes.{siteBytes, gatesBytes, gridBytes, weightingByte}
 use Rattle.scan_record.specs.RecordPlaces.{weightingOf, gridLength, siteIn, gridIn}

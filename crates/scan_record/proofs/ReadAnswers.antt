@@ -6,7 +6,8 @@ use native.Mathlib.Nat.{mul-le-mul}
 use lib.ListN.{length}
 use Rattle.placement.proofs.Accepted.{range-bounds}
 use Rattle.remap.specs.declared.scan.ScanHead.{ScanHead}
-use Rattle.remap.specs.Scan.{gatesOf, listsAccepted}
+use Rattle.remap.specs.Scan.{gatesOf}
+use Rattle.remap.specs.ScanRefusal.{listsAccepted}
 use Rattle.remap.proofs.AcceptedScan.{accepted-lists, accepted-numbers}
 use Rattle.scan_record.specs.declared.reader.ReadScan.the-variants.{Head, Refused}
 use Rattle.scan_record.specs.RecordPlaces.{raysIn, gatesIn, headIn}

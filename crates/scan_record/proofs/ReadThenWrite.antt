@@ -10,7 +10,8 @@ use lib.Dec.{eqb}
 use lib.ListN.{length, getD, length-append}
 use Rattle.arithmetic.specs.Places.{sumTo}
 use Rattle.placement.specs.Refusal.{firstRefusal}
-use Rattle.remap.specs.Scan.{gatesOf, listsAccepted}
+use Rattle.remap.specs.Scan.{gatesOf}
+use Rattle.remap.specs.ScanRefusal.{listsAccepted}
 use Rattle.remap.proofs.AcceptedScan.{by-last-list}
 use Rattle.scan_record.specs.BigEndian.{bytesOf, numberAt}
 use Rattle.scan_record.specs.RecordBytes.{siteBytes, gatesBytes, gridBytes, weightingByte, contentsOf, fieldBytes, recordOf}

@@ -5,7 +5,7 @@ use Prim.Native.Nat.{ℕ, zero, suc, _<_, _≤_}
 use lib.ListN.{length, getD, take, drop}
 use lib.Seq.{take-append-seam}
 use Rattle.remap.specs.declared.scan.ScanHead.{ScanHead}
-use Rattle.remap.proofs.ScanAnswer.{filled}
+use Rattle.placement.proofs.AnswerLaws.{filled}
 use Rattle.scan_record.specs.declared.reader.ReadScan.{ReadScan}
 use Rattle.scan_record.specs.declared.reader.ReadScan.the-variants as read
 use Rattle.scan_record.specs.declared.writer.WrittenScan.{WrittenScan}

@@ -14,7 +14,8 @@ use Rattle.placement.specs.declared.grid.Grid.the-variants.{Radolan, Hrap}
 use Rattle.placement.specs.Refusal.{azimuthAccepted}
 use Rattle.placement.proofs.Accepted.{range-bounds, accepted-azimuth}
 use Rattle.remap.specs.declared.scan.ScanHead.{ScanHead}
-use Rattle.remap.specs.Scan.{gatesOf, listsAccepted, qualityAccepted, scanNumber}
+use Rattle.remap.specs.Scan.{gatesOf}
+use Rattle.remap.specs.ScanRefusal.{listsAccepted, qualityAccepted, scanNumber}
 use Rattle.remap.proofs.AcceptedScan.{AcceptedLists, accepted-lists}
 use Rattle.scan_record.specs.BigEndian.{numberAt, numbersAt}
 use Rattle.scan_record.specs.RecordBytes.{gridBytes, contentsOf, fieldBytes, recordOf}

@@ -19,7 +19,8 @@ use Rattle.placement.specs.declared.position.Site.{Site}
 use Rattle.placement.specs.Refusal.{azimuthAccepted, siteAccepted, firstRefusal}
 use Rattle.placement.proofs.Accepted.{accepted-site, range-bounds}
 use Rattle.remap.specs.declared.scan.ScanHead.{ScanHead}
-use Rattle.remap.specs.Scan.{gatesOf, listsAccepted, qualityAccepted, scanNumber}
+use Rattle.remap.specs.Scan.{gatesOf}
+use Rattle.remap.specs.ScanRefusal.{listsAccepted, qualityAccepted, scanNumber}
 use Rattle.remap.proofs.AcceptedScan.{AcceptedLists, accepted-lists, accepted-numbers}
 use Rattle.scan_record.specs.declared.writer.WrittenScan.the-variants.{Length, Refused}
 use Rattle.scan_record.specs.RecordAnswer.{writtenAnswer}

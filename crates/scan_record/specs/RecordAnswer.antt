@@ -7,7 +7,7 @@ use lib.Dec.{eqb}
 use lib.ListN.{length, take, drop}
 use Rattle.placement.specs.Refusal.{inRange}
 use Rattle.remap.specs.declared.scan.ScanHead.{ScanHead}
-use Rattle.remap.specs.Remap.{afterwards}
+use Rattle.placement.specs.Answer.{afterwards}
 use Rattle.scan_record.specs.declared.reader.ReadScan.{ReadScan}
 use Rattle.scan_record.specs.declared.reader.ReadScan.the-variants as read
 use Rattle.scan_record.specs.declared.writer.WrittenScan.{WrittenScan}

@@ -7,7 +7,8 @@ use lib.ListN.{length, getD}
 use Rattle.arithmetic.specs.Places.{allOf}
 use Rattle.placement.specs.Refusal.{azimuthAccepted, _unless_, firstRefusal}
 use Rattle.remap.specs.declared.scan.ScanHead.{ScanHead}
-use Rattle.remap.specs.Scan.{gatesOf, listsAccepted, qualityAccepted, scanNumber}
+use Rattle.remap.specs.Scan.{gatesOf}
+use Rattle.remap.specs.ScanRefusal.{listsAccepted, qualityAccepted, scanNumber}
 use Rattle.scan_record.specs.BigEndian.{numberAt}
 use Rattle.scan_record.specs.RecordBytes.{recordOf}
 use Rattle.scan_record.specs.RecordPlaces.{gridLength, contentLength, fieldStart, contentStart, headIn, azimuthsIn, qualitiesIn}

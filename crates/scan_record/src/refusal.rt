@@ -9,7 +9,7 @@ use crate::numbers::u32_at;
 ghost use mathlib.Core.Path.{_≡_};
 ghost use Rattle.arithmetic.specs.Places.{allOf};
 ghost use Rattle.placement.specs.Refusal.{azimuthAccepted};
-ghost use Rattle.remap.specs.Scan.{qualityAccepted};
+ghost use Rattle.remap.specs.ScanRefusal.{qualityAccepted};
 ghost use Rattle.scan_record.specs.RecordPlaces.{azimuthsIn, qualitiesIn};
 ghost use Rattle.scan_record.specs.RecordRefusal.{recordRefusal};
 

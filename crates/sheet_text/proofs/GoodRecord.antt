@@ -12,10 +12,12 @@ use Rattle.placement.specs.Refusal.{azimuthAccepted, gridAccepted}
 use Rattle.placement.specs.Window.{windowOf}
 use Rattle.placement.proofs.Accepted.{range-bounds}
 use Rattle.remap.specs.declared.scan.ScanHead.{ScanHead}
-use Rattle.remap.specs.Scan.{gatesOf, cellsOf, listsAccepted, lengthsAccepted, qualityAccepted, scanRefusal}
+use Rattle.remap.specs.Scan.{gatesOf, cellsOf, Scan}
+use Rattle.remap.specs.ScanRefusal.{listsAccepted, lengthsAccepted, qualityAccepted, scanRefusal, lengthsOf, refusalFor}
+use Rattle.remap.specs.LentLists.{Lists}
+use Rattle.remap.specs.Remap.{filledLists, Remaps}
+use Rattle.placement.specs.Answer.{afterwards}
 use Rattle.remap.specs.declared.scan.Remapped.{Remapped}
-use Rattle.remap.specs.Lent.{Lists}
-use Rattle.remap.specs.Remap.{Scan, filledLists, afterwards, lengthsOf, refusalFor, Remaps}
 use Rattle.remap.specs.Tally.{talliedSums}
 use Rattle.remap.proofs.AcceptedScan.{AcceptedNumbers, accepted-numbers, window-size}
 use Rattle.scan_record.specs.declared.reader.ReadScan.{ReadScan}

@@ -20,9 +20,9 @@ use Rattle.placement.specs.Window.{windowOf, inSpan, inWindow, cellNumber, loca
 use Rattle.placement.proofs.Cells.{in-span-natural}
 use Rattle.remap.specs.declared.scan.ScanHead.{ScanHead}
 use Rattle.remap.specs.Gates.{isMeasured}
-use Rattle.remap.specs.Scan.{cellsOf}
+use Rattle.remap.specs.Scan.{cellsOf, Scan, raysOf}
+use Rattle.remap.specs.Remap.{ledgerOf, filledLists}
 use Rattle.remap.specs.Rays.{Ray}
-use Rattle.remap.specs.Remap.{Scan, raysOf, ledgerOf, filledLists}
 use Rattle.remap.specs.Tally.{countOf, talliedSums}
 use Rattle.remap.proofs.RayLaws.{gates-each}
 use Rattle.remap.proofs.CountTotal.{count-total}

@@ -4,9 +4,8 @@ use mathlib.Core.Path.{_≡_}
 use Prim.Native.Nat.{ℕ, _≤_}
 use lib.ListN.{length}
 use Rattle.remap.specs.declared.scan.ScanHead.{ScanHead}
-use Rattle.remap.specs.Lent.{Lists}
-use Rattle.remap.specs.Remap.{Scan}
-use Rattle.remap.specs.Scan.{gatesOf, cellsOf}
+use Rattle.remap.specs.LentLists.{Lists}
+use Rattle.remap.specs.Scan.{Scan, gatesOf, cellsOf}
 use Rattle.scan_record.specs.RecordPlaces.{headIn}
 use Rattle.scan_record.specs.RecordRefusal.{headRefusal}
 

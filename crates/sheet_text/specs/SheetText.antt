@@ -7,8 +7,8 @@ use lib.ListN.{length, getD}
 use Rattle.arithmetic.specs.Places.{sumTo}
 use Rattle.placement.specs.Window.{windowOf}
 use Rattle.remap.specs.Gates.{isMeasured}
-use Rattle.remap.specs.Scan.{gatesOf, cellsOf}
-use Rattle.remap.specs.Remap.{Scan, filledLists}
+use Rattle.remap.specs.Scan.{gatesOf, cellsOf, Scan}
+use Rattle.remap.specs.Remap.{filledLists}
 use Rattle.scan_record.specs.RecordPlaces.{headIn, azimuthsIn, valuesIn, qualitiesIn}
 use Rattle.scan_record.specs.RecordRefusal.{headRefusal}
 use Rattle.text.specs.DecimalText.{decimalOf, lineOf}

@@ -7,7 +7,7 @@ use lib.ListN.{length, drop}
 use Rattle.placement.specs.declared.grid.Grid.{Grid}
 use Rattle.placement.specs.declared.grid.Grid.the-variants.{Radolan, Hrap}
 use Rattle.remap.specs.declared.scan.ScanHead.{ScanHead}
-use Rattle.remap.specs.Remap.{afterwards}
+use Rattle.placement.specs.Answer.{afterwards}
 use Rattle.scan_record.specs.declared.reader.ReadScan.{ReadScan}
 use Rattle.scan_record.specs.declared.reader.ReadScan.the-variants as read
 use Rattle.scan_record.specs.declared.writer.WrittenScan.{WrittenScan}

@@ -4,8 +4,10 @@ use crate::head::hrap_head;
 use crate::head::radolan_head;
 use remap::Remapped;
 ghost use mathlib.Core.Path.{_≡_};
-ghost use Rattle.remap.specs.Lent.{lent};
-ghost use Rattle.remap.specs.Remap.{refusalFor, Filled, scanOf};
+ghost use Rattle.remap.specs.LentLists.{lentLists};
+ghost use Rattle.remap.specs.ScanRefusal.{refusalFor};
+ghost use Rattle.remap.specs.Remap.{Filled};
+ghost use Rattle.remap.specs.Scan.{scanHeld};
 ghost use Rattle.uldrevin.specs.ScanNumbers.{numberOf, radolanHead, hrapHead};
 
 #[no_mangle]

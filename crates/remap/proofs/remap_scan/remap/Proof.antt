@@ -1,11 +1,11 @@
 -- `remap::remap_scan::remap` meets its contract: a refused scan leaves every list, an accepted one fills each. Assumes nothing.
-use mathlib.Core.Path.{_≡_, sym, _∙_}
+use mathlib.Core.Path.{_≡_, refl, sym, _∙_}
 use Prim.Native.Nat.{ℕ}
-use Rattle.remap.specs.Lent.{listsOf}
-use Rattle.remap.specs.Remap.{scanOf, lengthsOf, refusalFor}
-use Rattle.remap.specs.Scan.{scanRefusal}
-use Rattle.remap.proofs.AcceptedScan.{accepted-scan}
-use Rattle.remap.proofs.ScanAnswer.{refused-answer, done-answer, kept, filled}
+use Rattle.remap.specs.LentLists.{listsHeld}
+use Rattle.remap.specs.Remap.{remapAnswer}
+use Rattle.remap.specs.Scan.{scanHeld}
+use Rattle.remap.specs.ScanRefusal.{listsExact, scanRefusal, refusalFor}
+use Rattle.placement.proofs.AnswerLaws.{is-refused, is-given, kept, filled}
 use borrow.Author.Needs.{needs}
 use Rattle.remap.proofs.remap_scan.remap.Statement.{statement}
 use Rattle.remap.proofs.remap_scan.remap.Tie as tie
@@ -17,11 +17,11 @@ given c = c .before .before .before .before .before .before .before .before .bef
 abbrev number : tie.Start → ℕ
 number s =
     let a = s .args in
-    refusalFor (scanOf (a .head) (a .azimuths) (a .values) (a .qualities))
-    (listsOf (a .ledger) (a .counts) (a .quality-sums) (a .value-sums) (a .means) (a .cell-qualities))
+    refusalFor (scanHeld (a .head) (a .azimuths) (a .values) (a .qualities))
+    (listsHeld (a .ledger) (a .counts) (a .quality-sums) (a .value-sums) (a .means) (a .cell-qualities))
 
 is-refusal : (c : tie.After-scan-refusal) → c .scan-refusal .result ≡ number (given c)
-unfolding refusalFor lengthsOf scanRefusal
+unfolding refusalFor scanRefusal listsExact
 is-refusal c =
     let lists = c .before in
     c .scan-refusal .ensures
@@ -46,10 +46,11 @@ scan-refusal-requires : tie.Need-scan-refusal-requires
 scan-refusal-requires c κs = search needs
 
 returns : tie.Need-returns
-returns c = record { the-answer = rw (is-refusal (c .before)) (refused-answer _ (refused c)); the-lists = kept _ _ _ (refused c) }
+unfolding remapAnswer
+returns c = record { the-answer = rw (is-refusal (c .before)) (is-refused _ _ (refused c)); the-lists = kept _ _ _ (refused c) }
 
 accepted-remap-requires : tie.Need-accepted-remap-requires
-accepted-remap-requires c κs = accepted-scan _ _ (accepted (c .before .before .before .before .before .before))
+accepted-remap-requires c κs = accepted (c .before .before .before .before .before .before)
 
 same-length : tie.Need-same-length
 same-length c = search needs
@@ -70,10 +71,11 @@ same-length-6 : tie.Need-same-length-6
 same-length-6 c = search needs
 
 returns-2 : tie.Need-returns-2
+unfolding remapAnswer
 returns-2 c =
     let remapped = c .before .before .before .before .before .before .before .before .before .before .before .before in
     let zero = accepted (remapped .before .before .before .before .before .before .before) in
-    record { the-answer = done-answer zero; the-lists = filled _ zero (remapped .accepted-remap .ensures) }
+    record { the-answer = is-given zero refl; the-lists = filled _ zero (remapped .accepted-remap .ensures) }
 
 pub remap-spec : {M : Type 1} → statement M
 remap-spec =

@@ -9,7 +9,7 @@ use borrow.Author.Needs.{needs}
 use borrow.Author.Tests.{le-leb, lt-leb, not-true, not-false}
 use Rattle.placement.specs.Refusal.{inRange}
 use Rattle.placement.proofs.Accepted.{range-bounds}
-use Rattle.remap.specs.Scan.{centresAccepted}
+use Rattle.remap.specs.ScanRefusal.{centresAccepted}
 use Rattle.remap.proofs.scan.centres_accepted.Statement.{statement}
 use Rattle.remap.proofs.scan.centres_accepted.Tie as tie
 

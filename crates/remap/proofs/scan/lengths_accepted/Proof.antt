@@ -3,7 +3,7 @@ use mathlib.Core.Path.{_≡_, sym, ap, _∙_}
 use mathlib.Core.Bool.{true}
 use borrow.Author.Tests.{not-true, not-false}
 use lib.Dec.{eqb}
-use Rattle.remap.specs.Scan.{listsAccepted}
+use Rattle.remap.specs.ScanRefusal.{listsAccepted}
 use Rattle.remap.proofs.AcceptedScan.{refused-lengths, refused-by-lists, by-last-length}
 use borrow.Author.Needs.{needs}
 use Rattle.remap.proofs.scan.lengths_accepted.Statement.{statement}

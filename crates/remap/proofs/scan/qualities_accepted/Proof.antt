@@ -6,7 +6,7 @@ use borrow.Author.Tests.{le-leb, lt-leb}
 use lib.ListN.{length, drop}
 use Rattle.arithmetic.specs.Places.{allOf}
 use Rattle.arithmetic.proofs.Places.{all-step, all-stop, all-end}
-use Rattle.remap.specs.Scan.{qualityAccepted}
+use Rattle.remap.specs.ScanRefusal.{qualityAccepted}
 use Rattle.remap.proofs.scan.qualities_accepted.Statement.{statement}
 use Rattle.remap.proofs.scan.qualities_accepted.Tie as tie
 

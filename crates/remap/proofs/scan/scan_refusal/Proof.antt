@@ -7,7 +7,7 @@ use borrow.Author.Needs.{needs}
 use borrow.Author.Tests.{not-true, not-false}
 use Rattle.placement.specs.Refusal.{inRange, siteAccepted, gridAccepted, _unless_, firstRefusal}
 use Rattle.placement.proofs.Accepted.{range-bounds}
-use Rattle.remap.specs.Scan.{centresAccepted, scanNumber}
+use Rattle.remap.specs.ScanRefusal.{centresAccepted, scanNumber}
 use Rattle.remap.proofs.scan.scan_refusal.Statement.{statement}
 use Rattle.remap.proofs.scan.scan_refusal.Tie as tie
 

@@ -2,7 +2,7 @@
 use mathlib.Core.Path.{_≡_, sym, ap, _∙_}
 use Prim.Native.Nat.{ℕ}
 use native.Mathlib.Omega.{arith}
-use Rattle.remap.proofs.ScanAnswer.{kept, filled}
+use Rattle.placement.proofs.AnswerLaws.{kept, filled}
 use Rattle.scan_record.specs.BigEndian.{numbersAt}
 use Rattle.scan_record.specs.RecordPlaces.{azimuthsIn, valuesIn, qualitiesIn}
 use Rattle.scan_record.specs.RecordRefusal.{recordRefusal, readRefusal}

@@ -6,7 +6,7 @@ use borrow.Author.Needs.{needs}
 use borrow.Author.Tests.{lt-leb, le-leb}
 use lib.ListN.{drop}
 use Rattle.arithmetic.specs.Places.{allOf}
-use Rattle.remap.specs.Scan.{qualityAccepted}
+use Rattle.remap.specs.ScanRefusal.{qualityAccepted}
 use Rattle.scan_record.specs.BigEndian.{numbersAt}
 use Rattle.scan_record.specs.RecordPlaces.{qualitiesIn}
 use Rattle.scan_record.proofs.ReadNumbers.{tested-step, tested-stop, tested-end, byte-in-list}

@@ -3,7 +3,7 @@ use mathlib.Core.Path.{_≡_, sym, _∙_}
 use Prim.Native.Nat.{ℕ}
 use borrow.Author.Needs.{needs}
 use lib.ListN.{length}
-use Rattle.remap.proofs.ScanAnswer.{kept, filled}
+use Rattle.placement.proofs.AnswerLaws.{kept, filled}
 use Rattle.scan_record.specs.RecordRefusal.{writeRefusal}
 use Rattle.scan_record.proofs.WriterAccepted.{writable, size-known, record-placed, refused-answer, written-answer}
 use Rattle.scan_record.proofs.writer.write_scan.Statement.{statement}

@@ -1,6 +1,6 @@
 -- `sheet_text::record_sheet::cells_text` meets its contract: read, remapped, printed. Assumes nothing.
 use mathlib.Core.Path.{_≡_, sym, ap, _∙_}
-use Rattle.remap.specs.Lent.{Lists}
+use Rattle.remap.specs.LentLists.{Lists}
 use Rattle.remap.specs.Remap.{filledLists}
 use Rattle.remap.specs.Scan.{cellsOf}
 use Rattle.sheet_text.specs.SheetText.{scanIn}

@@ -1,4 +1,4 @@
--- `remap::tally::clear32` meets its contract. Assumes nothing.
+-- `remap::clear::clear64` meets its contract. Assumes nothing.
 use mathlib.Core.Path.{_≡_}
 use mathlib.Core.List.{_++_}
 use Prim.Native.Nat.{_≤_, _-_}
@@ -7,8 +7,8 @@ use borrow.Author.Fill.{fill-more}
 use borrow.Author.Needs.{needs}
 use lib.ListN.{length, length-set, replicate, drop}
 use Rattle.arithmetic.proofs.Places.{fill-done}
-use Rattle.remap.proofs.tally.clear32.Statement.{statement}
-use Rattle.remap.proofs.tally.clear32.Tie as tie
+use Rattle.remap.proofs.clear.clear64.Statement.{statement}
+use Rattle.remap.proofs.clear.clear64.Tie as tie
 
 abbrev Inv-loop : tie.InvT-loop
 Inv-loop xs₀ k₀ xs k = (k ≤ length xs₀) × (length xs ≡ length xs₀) × (xs ≡ replicate k 0 ++ drop k xs₀)
@@ -44,8 +44,8 @@ returns c =
     let l = c .before .loop .inv in
     fill-done _ 0 _ _ (l .0) (omega arith) (l .2)
 
-pub clear32-spec : {M : Type 1} → statement M
-clear32-spec =
+pub clear64-spec : {M : Type 1} → statement M
+clear64-spec =
     tie.close
     (tie.spec
     Inv-loop
