@@ -26,6 +26,9 @@ unfoldable pub listsAccepted : ScanHead → ℕ → ℕ → ℕ → Bool
 listsAccepted head azimuths values qualities =
     eqb azimuths (head .rays) && eqb values (gatesOf head) && eqb qualities (gatesOf head)
 
+unfoldable pub givenExact : Scan → Bool
+givenExact scan = listsAccepted (scan .head) (length (scan .azimuths)) (length (scan .values)) (length (scan .qualities))
+
 -- of all lists: the ledger rays x gates too; each cell list columns x rows
 unfoldable pub lengthsAccepted : ScanHead → Lengths → Bool
 lengthsAccepted head given =

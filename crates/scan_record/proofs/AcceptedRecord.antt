@@ -10,13 +10,13 @@ use borrow.Author.Tests.{leb-true, eqb-true, le-leb, eq-eqb}
 use lib.ListN.{length, getD}
 use Rattle.arithmetic.specs.Places.{allOf}
 use Rattle.placement.specs.Refusal.{azimuthAccepted, firstRefusal}
-use Rattle.remap.specs.declared.scan.ScanHead.{ScanHead}
-use Rattle.remap.specs.Scan.{gatesOf}
-use Rattle.remap.specs.ScanRefusal.{listsAccepted, qualityAccepted, scanNumber}
+use Rattle.remap.specs.Scan.{Scan, gatesOf}
+use Rattle.remap.specs.ScanRefusal.{qualityAccepted, givenExact, scanRefusal}
 use Rattle.remap.proofs.AcceptedScan.{AcceptedNumbers, accepted-numbers, passed}
 use Rattle.scan_record.specs.BigEndian.{numberAt}
 use Rattle.scan_record.specs.RecordBytes.{recordOf}
-use Rattle.scan_record.specs.RecordPlaces.{contentLength, fieldStart, contentStart, headIn, azimuthsIn, qualitiesIn}
+use Rattle.scan_record.specs.RecordPlaces.{contentLength, fieldStart, contentStart, headIn, azimuthsIn, qualitiesIn, scanIn}
+use Rattle.scan_record.specs.RecordLists.{RecordLists}
 use Rattle.scan_record.specs.RecordRefusal.{contentAccepted, fieldRefusal, fieldsRefusal, layoutRefusal, recordRefusal, headRefusal, readRefusal, writeRefusal}
 use Rattle.scan_record.proofs.Then.{then-none, then-zero}
 
@@ -86,7 +86,7 @@ layout-none bytes layout =
 
 pub record AcceptedRecord (bytes : List ℕ) (exact : Bool) : Type 0 where
   pub layout : AcceptedLayout bytes
-  pub number : scanNumber (headIn bytes) exact (allOf azimuthAccepted (azimuthsIn bytes)) (allOf qualityAccepted (qualitiesIn bytes)) ≡ 0
+  pub number : scanRefusal (scanIn bytes) exact ≡ 0
 
 pub accepted-record : (bytes : List ℕ) (exact : Bool) → recordRefusal bytes exact ≡ 0 → AcceptedRecord bytes exact
 unfolding recordRefusal
@@ -94,30 +94,32 @@ accepted-record bytes exact e =
     let parts = then-none _ _ e in
     record { layout = accepted-layout bytes (parts .0); number = parts .1 }
 
+-- so its numbers and lists are accepted
+pub record-numbers : (bytes : List ℕ) (exact : Bool) → recordRefusal bytes exact ≡ 0 → AcceptedNumbers (headIn bytes) exact (allOf azimuthAccepted (azimuthsIn bytes)) (allOf qualityAccepted (qualitiesIn bytes))
+unfolding scanRefusal scanIn
+record-numbers bytes exact e = accepted-numbers (headIn bytes) exact _ _ (accepted-record bytes exact e .number)
+
 -- where the reader refuses nothing, the calls that lend no lists refuse nothing either
-pub read-accepted : (bytes azimuths values qualities : List ℕ) → readRefusal bytes azimuths values qualities ≡ 0 → headRefusal bytes ≡ 0
+pub read-accepted : (bytes : List ℕ) (lists : RecordLists) → readRefusal bytes lists ≡ 0 → headRefusal bytes ≡ 0
 unfolding readRefusal headRefusal
-read-accepted bytes azimuths values qualities e =
-    let exact = listsAccepted (headIn bytes) (length azimuths) (length values) (length qualities) in
-    let numbers = accepted-numbers (headIn bytes) exact _ _ (accepted-record bytes exact e .number) in
-    subst (λ (t : Bool). recordRefusal bytes t ≡ 0) (numbers .lengths-accepted) e
+read-accepted bytes lists e = subst (λ (t : Bool). recordRefusal bytes t ≡ 0) (record-numbers bytes _ e .lengths-accepted) e
 
 -- ---- a scan that the writer does not refuse
 
-pub record AcceptedWriting (head : ScanHead) (azimuths values qualities : List ℕ) (room : ℕ) : Type 0 where
-  pub none : scanNumber head (listsAccepted head (length azimuths) (length values) (length qualities)) (allOf azimuthAccepted azimuths) (allOf qualityAccepted qualities) ≡ 0
-  pub numbers : AcceptedNumbers head (listsAccepted head (length azimuths) (length values) (length qualities)) (allOf azimuthAccepted azimuths) (allOf qualityAccepted qualities)
-  pub gates-most : gatesOf head ≤ 32767
-  pub room-enough : length (recordOf head azimuths values qualities) ≤ room
+pub record AcceptedWriting (scan : Scan) (room : ℕ) : Type 0 where
+  pub none : scanRefusal scan (givenExact scan) ≡ 0
+  pub numbers : AcceptedNumbers (scan .head) (givenExact scan) (allOf azimuthAccepted (scan .azimuths)) (allOf qualityAccepted (scan .qualities))
+  pub gates-most : gatesOf (scan .head) ≤ 32767
+  pub room-enough : length (recordOf scan) ≤ room
 
-pub accepted-writing : (head : ScanHead) (azimuths values qualities : List ℕ) (room : ℕ) → writeRefusal head azimuths values qualities room ≡ 0 → AcceptedWriting head azimuths values qualities room
-unfolding writeRefusal firstRefusal
-accepted-writing head azimuths values qualities room e =
+pub accepted-writing : (scan : Scan) (room : ℕ) → writeRefusal scan room ≡ 0 → AcceptedWriting scan room
+unfolding writeRefusal scanRefusal firstRefusal
+accepted-writing scan room e =
     let parts = then-none _ _ e in
     let gates = passed _ 14 _ (parts .1) in
     record {
       none = parts .0;
-      numbers = accepted-numbers head _ _ _ (parts .0);
+      numbers = accepted-numbers (scan .head) _ _ _ (parts .0);
       gates-most = leb-true _ _ (gates .0);
       room-enough = leb-true _ _ (passed _ 15 _ (gates .1) .0);
     }

@@ -8,7 +8,7 @@ use Rattle.placement.specs.declared.grid.Grid.{Grid}
 use Rattle.placement.specs.declared.grid.Grid.the-variants.{Radolan, Hrap}
 use Rattle.placement.specs.declared.position.Site.{Site}
 use Rattle.remap.specs.declared.scan.ScanHead.{ScanHead}
-use Rattle.remap.specs.Scan.{gatesOf}
+use Rattle.remap.specs.Scan.{Scan, gatesOf}
 use Rattle.scan_record.specs.RecordBytes.{siteBytes, gatesBytes, gridBytes, contentsOf, headerBytes, fieldBytes, fieldsBytes, recordOf}
 use Rattle.scan_record.specs.RecordRoom.{recordLength}
 use Rattle.scan_record.proofs.BigEndianLaws.{bytes-length, all-bytes-length, signed-length}
@@ -53,7 +53,7 @@ pub field-length : (tag : ℕ) (content : List ℕ) → length (fieldBytes tag c
 unfolding fieldBytes headerBytes
 field-length tag content = simp (length-append, bytes-length)
 
-pub record-length : (head : ScanHead) (azimuths values qualities : List ℕ) → length azimuths ≡ head .rays → length values ≡ gatesOf head → length qualities ≡ gatesOf head → length (recordOf head azimuths values qualities) ≡ recordLength head
+pub record-length : (scan : Scan) → length (scan .azimuths) ≡ scan .head .rays → length (scan .values) ≡ gatesOf (scan .head) → length (scan .qualities) ≡ gatesOf (scan .head) → length (recordOf scan) ≡ recordLength (scan .head)
 unfolding recordOf contentsOf fieldsBytes recordLength
-record-length head azimuths values qualities a v q =
+record-length scan a v q =
     simp (length-append, field-length, site-length, gates-length, bytes-length, all-bytes-length, a, v, q) (omega arith)

@@ -6,7 +6,7 @@ use Prim.Native.Nat.{ℕ, _+_, _<_}
 use native.Mathlib.Omega.{arith}
 use lib.ListN.{getD, take, drop}
 use Rattle.scan_record.specs.RecordBytes.{contentsOf}
-use Rattle.scan_record.specs.RecordPlaces.{contentLength, contentStart, headIn, azimuthsIn, valuesIn, qualitiesIn}
+use Rattle.scan_record.specs.RecordPlaces.{contentLength, contentStart, scanIn}
 use Rattle.scan_record.specs.RecordRefusal.{headRefusal}
 use Rattle.scan_record.specs.RecordAnswer.{part, fieldPart}
 use Rattle.scan_record.proofs.AcceptedRecord.{accepted-record}
@@ -18,7 +18,7 @@ accepted-part : (bytes : List ℕ) (k : ℕ) → k < 7 → headRefusal bytes ≡
 accepted-part bytes k h e =
     sym (part-given bytes (k + 1) (omega arith) (omega arith) e) ∙ ap (λ (j : ℕ). part (contentStart bytes j) (contentLength bytes j) bytes) (omega arith)
 
-pub field-contents : (bytes : List ℕ) → ((k : ℕ) → getD bytes k 0 < 256) → headRefusal bytes ≡ 0 → (k : ℕ) → k < 7 → fieldPart bytes (k + 1) ≡ getD (contentsOf (headIn bytes) (azimuthsIn bytes) (valuesIn bytes) (qualitiesIn bytes)) k []
+pub field-contents : (bytes : List ℕ) → ((k : ℕ) → getD bytes k 0 < 256) → headRefusal bytes ≡ 0 → (k : ℕ) → k < 7 → fieldPart bytes (k + 1) ≡ getD (contentsOf (scanIn bytes)) k []
 unfolding part headRefusal
 field-contents bytes small e k h =
     accepted-part bytes k h e

@@ -7,7 +7,7 @@ pub mod ContentLengths
 pub mod WrittenBytes
 pub mod FieldStands
 pub mod AcceptedRecord
-pub mod ReadAnswers
+pub mod ReadLists
 pub mod FieldParts
 pub mod WriterAccepted
 pub mod ReadThenWrite

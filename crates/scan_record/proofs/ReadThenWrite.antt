@@ -11,11 +11,11 @@ use lib.ListN.{length, getD, length-append}
 use Rattle.arithmetic.specs.Places.{sumTo}
 use Rattle.placement.specs.Refusal.{firstRefusal}
 use Rattle.remap.specs.Scan.{gatesOf}
-use Rattle.remap.specs.ScanRefusal.{listsAccepted}
+use Rattle.remap.specs.ScanRefusal.{givenExact}
 use Rattle.remap.proofs.AcceptedScan.{by-last-list}
 use Rattle.scan_record.specs.BigEndian.{bytesOf, numberAt}
 use Rattle.scan_record.specs.RecordBytes.{siteBytes, gatesBytes, gridBytes, weightingByte, contentsOf, fieldBytes, recordOf}
-use Rattle.scan_record.specs.RecordPlaces.{weightingOf, gridLength, raysIn, gatesIn, contentLength, fieldStart, contentStart, siteIn, gridIn, headIn, azimuthsIn, valuesIn, qualitiesIn}
+use Rattle.scan_record.specs.RecordPlaces.{weightingOf, gridLength, raysIn, gatesIn, contentLength, fieldStart, contentStart, siteIn, gridIn, headIn, azimuthsIn, valuesIn, qualitiesIn, scanIn}
 use Rattle.scan_record.specs.RecordRefusal.{kindAccepted, weightingAccepted, contentAccepted, headRefusal, writeRefusal}
 use Rattle.scan_record.proofs.StandsAt.{Stands, stands-moved, stands-next, stands-all}
 use Rattle.scan_record.proofs.BigEndianLaws.{bytes-length, signed-length, all-bytes-length, numbers-length, byte-written, number-small, number-written, numbers-written, signed-number-written}
@@ -107,10 +107,10 @@ module _ (bytes : List ℕ) (small : (k : ℕ) → getD bytes k 0 < 256) where
 
 -- the contents that are written again
 abbrev pub contentsIn : List ℕ → List (List ℕ)
-contentsIn bytes = contentsOf (headIn bytes) (azimuthsIn bytes) (valuesIn bytes) (qualitiesIn bytes)
+contentsIn bytes = contentsOf (scanIn bytes)
 
 pub content-length : (bytes : List ℕ) (k : ℕ) → k < 7 → length (getD (contentsIn bytes) k []) ≡ contentLength bytes k
-unfolding contentsOf contentLength headIn azimuthsIn valuesIn qualitiesIn
+unfolding contentsOf contentLength scanIn headIn azimuthsIn valuesIn qualitiesIn
 content-length bytes =
     each-field (λ k. length (getD (contentsIn bytes) k []) ≡ contentLength bytes k)
     (site-length _)
@@ -131,7 +131,7 @@ unfolding contentLength
 content-lengths bytes = (refl, refl, refl, refl, refl, refl, refl)
 
 pub content-stands : (bytes : List ℕ) → ((k : ℕ) → getD bytes k 0 < 256) → AcceptedLayout bytes → (k : ℕ) → k < 7 → Stands (getD (contentsIn bytes) k []) (contentStart bytes k) bytes
-unfolding contentsOf headIn azimuthsIn valuesIn qualitiesIn
+unfolding contentsOf scanIn headIn azimuthsIn valuesIn qualitiesIn
 content-stands bytes small layout =
     let there : (k : ℕ) → k < 7 → contentStart bytes k + contentLength bytes k ≤ length bytes = λ k h. layout .field k h .content-there in
     let starts = first-starts bytes in
@@ -158,7 +158,7 @@ field-again bytes small layout k h =
       content-stands = content-stands bytes small layout k h;
     })
 
-record-again : (bytes : List ℕ) → ((k : ℕ) → getD bytes k 0 < 256) → AcceptedLayout bytes → recordOf (headIn bytes) (azimuthsIn bytes) (valuesIn bytes) (qualitiesIn bytes) ≡ bytes
+record-again : (bytes : List ℕ) → ((k : ℕ) → getD bytes k 0 < 256) → AcceptedLayout bytes → recordOf (scanIn bytes) ≡ bytes
 unfolding recordOf contentsOf
 record-again bytes small layout =
     let starts : (n : ℕ) → n ≤ 7 → startAmong (contentsIn bytes) n ≡ fieldStart bytes n =
@@ -175,26 +175,26 @@ unfolding gatesOf headIn gatesIn contentLength
 gates-most bytes small field =
     omega (arith, field .size, number-small 2 bytes (fieldStart bytes 5 + 1) small)
 
-lists-again : (bytes : List ℕ) → listsAccepted (headIn bytes) (length (azimuthsIn bytes)) (length (valuesIn bytes)) (length (qualitiesIn bytes)) ≡ true
-unfolding azimuthsIn valuesIn qualitiesIn raysIn gatesIn headIn gatesOf
+lists-again : (bytes : List ℕ) → givenExact (scanIn bytes) ≡ true
+unfolding givenExact scanIn azimuthsIn valuesIn qualitiesIn raysIn gatesIn headIn gatesOf
 lists-again bytes =
     sym (by-last-list (headIn bytes) _ _ _ (numbers-length 4 bytes _ _) (numbers-length 2 bytes _ _)) ∙ eq-eqb _ _ (numbers-length 1 bytes _ _)
 
-written-again : (bytes : List ℕ) (room : ℕ) → ((k : ℕ) → getD bytes k 0 < 256) → headRefusal bytes ≡ 0 → length bytes ≤ room → writeRefusal (headIn bytes) (azimuthsIn bytes) (valuesIn bytes) (qualitiesIn bytes) room ≡ 0
-unfolding headRefusal writeRefusal firstRefusal
+written-again : (bytes : List ℕ) (room : ℕ) → ((k : ℕ) → getD bytes k 0 < 256) → headRefusal bytes ≡ 0 → length bytes ≤ room → writeRefusal (scanIn bytes) room ≡ 0
+unfolding headRefusal writeRefusal firstRefusal scanIn
 written-again bytes room small e h =
     let accepted = accepted-record bytes true e in
     let again = record-again bytes small (accepted .layout) in
     then-zero
     (rw (lists-again bytes) (accepted .number))
     (rw (
-      le-leb (gatesOf (headIn bytes)) 32767 (gates-most bytes small (accepted .layout .field 5 (omega arith))),
-      le-leb (length (recordOf (headIn bytes) (azimuthsIn bytes) (valuesIn bytes) (qualitiesIn bytes))) room (omega (arith, ap length again)),
+      le-leb (gatesOf (scanIn bytes .head)) 32767 (gates-most bytes small (accepted .layout .field 5 (omega arith))),
+      le-leb (length (recordOf (scanIn bytes))) room (omega (arith, ap length again)),
     ))
 
 pub record WrittenBack (bytes : List ℕ) : Type 0 where
-  pub same-bytes : recordOf (headIn bytes) (azimuthsIn bytes) (valuesIn bytes) (qualitiesIn bytes) ≡ bytes
-  pub not-refused : (room : ℕ) → length bytes ≤ room → writeRefusal (headIn bytes) (azimuthsIn bytes) (valuesIn bytes) (qualitiesIn bytes) room ≡ 0
+  pub same-bytes : recordOf (scanIn bytes) ≡ bytes
+  pub not-refused : (room : ℕ) → length bytes ≤ room → writeRefusal (scanIn bytes) room ≡ 0
 
 pub read-then-write : (bytes : List ℕ) → ((k : ℕ) → getD bytes k 0 < 256) → headRefusal bytes ≡ 0 → WrittenBack bytes
 unfolding headRefusal

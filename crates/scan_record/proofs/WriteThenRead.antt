@@ -13,13 +13,13 @@ use Rattle.placement.specs.declared.grid.Grid.{Grid}
 use Rattle.placement.specs.declared.grid.Grid.the-variants.{Radolan, Hrap}
 use Rattle.placement.specs.Refusal.{azimuthAccepted}
 use Rattle.placement.proofs.Accepted.{range-bounds, accepted-azimuth}
-use Rattle.remap.specs.declared.scan.ScanHead.{ScanHead}
-use Rattle.remap.specs.Scan.{gatesOf}
-use Rattle.remap.specs.ScanRefusal.{listsAccepted, qualityAccepted, scanNumber}
+use Rattle.remap.specs.Scan.{Scan, gatesOf}
+use Rattle.remap.specs.ScanRefusal.{listsAccepted, qualityAccepted, givenExact, scanRefusal}
 use Rattle.remap.proofs.AcceptedScan.{AcceptedLists, accepted-lists}
 use Rattle.scan_record.specs.BigEndian.{numberAt, numbersAt}
 use Rattle.scan_record.specs.RecordBytes.{gridBytes, contentsOf, fieldBytes, recordOf}
-use Rattle.scan_record.specs.RecordPlaces.{gridLength, raysIn, gatesIn, contentLength, fieldStart, contentStart, headIn, azimuthsIn, valuesIn, qualitiesIn}
+use Rattle.scan_record.specs.RecordPlaces.{gridLength, raysIn, gatesIn, contentLength, fieldStart, contentStart, headIn, azimuthsIn, valuesIn, qualitiesIn, scanIn}
+use Rattle.scan_record.specs.RecordLists.{RecordLists}
 use Rattle.scan_record.specs.RecordRefusal.{weightingAccepted, contentAccepted, recordRefusal, headRefusal, readRefusal, writeRefusal}
 use Rattle.scan_record.proofs.StandsAt.{Stands, stands-moved, stands-whole, stands-within}
 use Rattle.scan_record.proofs.BigEndianLaws.{bytes-length, all-bytes-length, numbers-read}
@@ -35,43 +35,47 @@ unfolding gridLength gridLengthOf
 grid-length-read (Radolan g) bytes e = rw e
 grid-length-read (Hrap g) bytes e = rw e
 
-module _ (head : ScanHead) (azimuths values qualities : List ℕ) where
+given-exact : (scan : Scan) → givenExact scan ≡ true → listsAccepted (scan .head) (length (scan .azimuths)) (length (scan .values)) (length (scan .qualities)) ≡ true
+unfolding givenExact
+given-exact scan e = e
+
+module _ (scan : Scan) where
   abbrev contents : List (List ℕ)
-  contents = contentsOf head azimuths values qualities
+  contents = contentsOf scan
 
   -- the lengths of the contents, in the scan's numbers
   abbrev sizes : List ℕ
-  sizes = 8 ∷ 12 ∷ gridLengthOf (head .grid) ∷ 1 ∷ 4 * head .rays ∷ 2 * gatesOf head ∷ gatesOf head ∷ []
+  sizes = 8 ∷ 12 ∷ gridLengthOf (scan .head .grid) ∷ 1 ∷ 4 * scan .head .rays ∷ 2 * gatesOf (scan .head) ∷ gatesOf (scan .head) ∷ []
 
-  sizes-are : AcceptedLists head (length azimuths) (length values) (length qualities) → (k : ℕ) → k < 7 → length (getD contents k []) ≡ getD sizes k 0
+  sizes-are : AcceptedLists (scan .head) (length (scan .azimuths)) (length (scan .values)) (length (scan .qualities)) → (k : ℕ) → k < 7 → length (getD contents k []) ≡ getD sizes k 0
   unfolding contentsOf
   sizes-are lists =
       each-field (λ k. length (getD contents k []) ≡ getD sizes k 0)
-      (site-length (head .site))
-      (gates-length head)
-      (grid-length (head .grid))
+      (site-length (scan .head .site))
+      (gates-length (scan .head))
+      (grid-length (scan .head .grid))
       (bytes-length 1 _)
-      (all-bytes-length 4 azimuths ∙ ap (λ (n : ℕ). 4 * n) (lists .azimuths-length))
-      (all-bytes-length 2 values ∙ ap (λ (n : ℕ). 2 * n) (lists .values-length))
-      (all-bytes-length 1 qualities ∙ omega (arith, lists .qualities-length))
+      (all-bytes-length 4 (scan .azimuths) ∙ ap (λ (n : ℕ). 4 * n) (lists .azimuths-length))
+      (all-bytes-length 2 (scan .values) ∙ ap (λ (n : ℕ). 2 * n) (lists .values-length))
+      (all-bytes-length 1 (scan .qualities) ∙ omega (arith, lists .qualities-length))
 
   -- each content's length has two bytes
-  sizes-small : head .rays ≤ 720 → gatesOf head ≤ 32767 → (k : ℕ) → k < 7 → getD sizes k 0 < 65536
+  sizes-small : scan .head .rays ≤ 720 → gatesOf (scan .head) ≤ 32767 → (k : ℕ) → k < 7 → getD sizes k 0 < 65536
   sizes-small rays gates =
       each-field (λ k. getD sizes k 0 < 65536)
-      (omega arith) (omega arith) (omega (arith, grid-length-most (head .grid), grid-length (head .grid))) (omega arith) (omega arith) (omega arith) (omega arith)
+      (omega arith) (omega arith) (omega (arith, grid-length-most (scan .head .grid), grid-length (scan .head .grid))) (omega arith) (omega arith) (omega arith) (omega arith)
 
   first-starts : (startAmong contents 0 ≡ 0) × (startAmong contents 1 ≡ 11) × (startAmong contents 2 ≡ 26)
   unfolding startAmong sumTo contentsOf
-  first-starts = (refl, rw (site-length (head .site)), rw (site-length (head .site), gates-length head))
+  first-starts = (refl, rw (site-length (scan .head .site)), rw (site-length (scan .head .site), gates-length (scan .head)))
 
   -- bytes in which the record stands
-  module _ (bytes : List ℕ) (room : ℕ) (accepted : AcceptedWriting head azimuths values qualities room) (stands : Stands (recordOf head azimuths values qualities) 0 bytes) (whole : length bytes ≡ length (recordOf head azimuths values qualities)) where
-    lists : AcceptedLists head (length azimuths) (length values) (length qualities)
-    lists = accepted-lists head (length azimuths) (length values) (length qualities) (accepted .numbers .lengths-accepted)
+  module _ (bytes : List ℕ) (room : ℕ) (accepted : AcceptedWriting scan room) (stands : Stands (recordOf scan) 0 bytes) (whole : length bytes ≡ length (recordOf scan)) where
+    lists : AcceptedLists (scan .head) (length (scan .azimuths)) (length (scan .values)) (length (scan .qualities))
+    lists = accepted-lists (scan .head) (length (scan .azimuths)) (length (scan .values)) (length (scan .qualities)) (given-exact scan (accepted .numbers .lengths-accepted))
 
-    rays-most : head .rays ≤ 720
-    rays-most = range-bounds 1 720 (head .rays) (accepted .numbers .rays-accepted) .1
+    rays-most : scan .head .rays ≤ 720
+    rays-most = range-bounds 1 720 (scan .head .rays) (accepted .numbers .rays-accepted) .1
 
     field-stands : (k : ℕ) → k < 7 → Stands (fieldBytes (1 + k) (getD contents k [])) (startAmong contents k) bytes
     unfolding recordOf contentsOf
@@ -82,17 +86,17 @@ module _ (head : ScanHead) (azimuths values qualities : List ℕ) where
         field-read (1 + k) (getD contents k []) (startAmong contents k) bytes (omega arith)
         (rw (sizes-are lists k h) (sizes-small rays-most (accepted .gates-most) k h)) (field-stands k h)
 
-    gates-there : GatesRead head bytes
+    gates-there : GatesRead (scan .head) bytes
     unfolding contentsOf
     gates-there =
-        gates-are-read head bytes rays-most (range-bounds 1 1000 (head .gates) (accepted .numbers .gates-accepted) .1) (accepted .numbers .centres-accepted)
+        gates-are-read (scan .head) bytes rays-most (range-bounds 1 1000 (scan .head .gates) (accepted .numbers .gates-accepted) .1) (accepted .numbers .centres-accepted)
         (stands-moved (omega (arith, first-starts .1)) (field-at 1 (omega arith) .content-stands))
 
-    grid-length-there : gridLength bytes ≡ gridLengthOf (head .grid)
+    grid-length-there : gridLength bytes ≡ gridLengthOf (scan .head .grid)
     unfolding contentsOf
     grid-length-there =
-        grid-length-read (head .grid) bytes
-        (ap (numberAt 2 bytes) (omega (arith, first-starts .2)) ∙ field-at 2 (omega arith) .size-there ∙ grid-length (head .grid))
+        grid-length-read (scan .head .grid) bytes
+        (ap (numberAt 2 bytes) (omega (arith, first-starts .2)) ∙ field-at 2 (omega arith) .size-there ∙ grid-length (scan .head .grid))
 
     size-there : (k : ℕ) → k < 7 → length (getD contents k []) ≡ contentLength bytes k
     unfolding contentLength raysIn gatesIn gatesOf
@@ -106,7 +110,7 @@ module _ (head : ScanHead) (azimuths values qualities : List ℕ) where
     unfolding contentStart
     content-there k h = stands-moved (ap (λ (n : ℕ). n + 3) (start-there k (le-of-lt h))) (field-at k h .content-stands)
 
-    grid-there : Stands (gridBytes (head .grid)) 29 bytes
+    grid-there : Stands (gridBytes (scan .head .grid)) 29 bytes
     unfolding contentsOf
     grid-there = stands-moved (omega (arith, first-starts .2)) (field-at 2 (omega arith) .content-stands)
 
@@ -114,8 +118,8 @@ module _ (head : ScanHead) (azimuths values qualities : List ℕ) where
     unfolding contentAccepted weightingAccepted contentsOf
     content-good =
         each-field (λ k. contentAccepted bytes k ≡ true) refl refl
-        (kind-read (head .grid) bytes grid-length-there grid-there)
-        (weighting-read (head .weighting) (contentStart bytes 3) bytes (content-there 3 (omega arith)) .1)
+        (kind-read (scan .head .grid) bytes grid-length-there grid-there)
+        (weighting-read (scan .head .weighting) (contentStart bytes 3) bytes (content-there 3 (omega arith)) .1)
         refl refl refl
 
     -- ---- nothing of the layout is refused
@@ -147,13 +151,13 @@ module _ (head : ScanHead) (azimuths values qualities : List ℕ) where
 
     -- ---- what is read
 
-    head-back : headIn bytes ≡ head
+    head-back : headIn bytes ≡ scan .head
     unfolding headIn contentsOf
     head-back =
         let known = accepted .numbers in
-        let site = site-read (head .site) bytes (known .site-accepted) (stands-moved (omega (arith, first-starts .0)) (field-at 0 (omega arith) .content-stands)) in
-        let grid = grid-read (head .grid) bytes (known .grid-accepted) grid-length-there grid-there in
-        let weighting = weighting-read (head .weighting) (contentStart bytes 3) bytes (content-there 3 (omega arith)) .0 in
+        let site = site-read (scan .head .site) bytes (known .site-accepted) (stands-moved (omega (arith, first-starts .0)) (field-at 0 (omega arith) .content-stands)) in
+        let grid = grid-read (scan .head .grid) bytes (known .grid-accepted) grid-length-there grid-there in
+        let weighting = weighting-read (scan .head .weighting) (contentStart bytes 3) bytes (content-there 3 (omega arith)) .0 in
         λ i. record {
           site = site i;
           rays = gates-there .rays-read i;
@@ -164,65 +168,62 @@ module _ (head : ScanHead) (azimuths values qualities : List ℕ) where
           weighting = weighting i;
         }
 
-    gates-back : gatesIn bytes ≡ gatesOf head
+    gates-back : gatesIn bytes ≡ gatesOf (scan .head)
     unfolding gatesIn gatesOf
     gates-back = rw (gates-there .rays-read, gates-there .gates-read)
 
-    azimuths-back : azimuthsIn bytes ≡ azimuths
+    azimuths-back : azimuthsIn bytes ≡ scan .azimuths
     unfolding azimuthsIn raysIn contentsOf azimuthAccepted
     azimuths-back =
         ap (numbersAt 4 bytes (contentStart bytes 4)) (gates-there .rays-read ∙ sym (lists .azimuths-length))
-        ∙ numbers-read 4 azimuths (contentStart bytes 4) bytes
-        (λ k. omega (arith, accepted-azimuth (getD azimuths k 0) (all-at azimuthAccepted azimuths refl (accepted .numbers .azimuths-accepted) k)))
+        ∙ numbers-read 4 (scan .azimuths) (contentStart bytes 4) bytes
+        (λ k. omega (arith, accepted-azimuth (getD (scan .azimuths) k 0) (all-at azimuthAccepted (scan .azimuths) refl (accepted .numbers .azimuths-accepted) k)))
         (content-there 4 (omega arith))
 
-    values-back : ((k : ℕ) → getD values k 0 < 65536) → valuesIn bytes ≡ values
+    values-back : ((k : ℕ) → getD (scan .values) k 0 < 65536) → valuesIn bytes ≡ scan .values
     unfolding valuesIn contentsOf
     values-back small =
         ap (numbersAt 2 bytes (contentStart bytes 5)) (gates-back ∙ sym (lists .values-length))
-        ∙ numbers-read 2 values (contentStart bytes 5) bytes small (content-there 5 (omega arith))
+        ∙ numbers-read 2 (scan .values) (contentStart bytes 5) bytes small (content-there 5 (omega arith))
 
-    qualities-back : qualitiesIn bytes ≡ qualities
+    qualities-back : qualitiesIn bytes ≡ scan .qualities
     unfolding qualitiesIn contentsOf qualityAccepted
     qualities-back =
         ap (numbersAt 1 bytes (contentStart bytes 6)) (gates-back ∙ sym (lists .qualities-length))
-        ∙ numbers-read 1 qualities (contentStart bytes 6) bytes
-        (λ k. omega (arith, leb-true (getD qualities k 0) 100 (all-at qualityAccepted qualities refl (accepted .numbers .qualities-accepted) k)))
+        ∙ numbers-read 1 (scan .qualities) (contentStart bytes 6) bytes
+        (λ k. omega (arith, leb-true (getD (scan .qualities) k 0) 100 (all-at qualityAccepted (scan .qualities) refl (accepted .numbers .qualities-accepted) k)))
         (content-there 6 (omega arith))
 
+    scan-back : ((k : ℕ) → getD (scan .values) k 0 < 65536) → scanIn bytes ≡ scan
+    unfolding scanIn
+    scan-back small i = record { head = head-back i; azimuths = azimuths-back i; values = values-back small i; qualities = qualities-back i }
+
     -- the reader's refusal is the scan's
-    refusal-back : (exact : Bool) → recordRefusal bytes exact ≡ scanNumber head exact (allOf azimuthAccepted azimuths) (allOf qualityAccepted qualities)
+    refusal-back : ((k : ℕ) → getD (scan .values) k 0 < 65536) → (exact : Bool) → recordRefusal bytes exact ≡ scanRefusal scan exact
     unfolding recordRefusal
-    refusal-back exact = then-next _ (layout-none bytes layout-good) ∙ rw (head-back, azimuths-back, qualities-back)
+    refusal-back small exact = then-next _ (layout-none bytes layout-good) ∙ ap (λ (s : Scan). scanRefusal s exact) (scan-back small)
 
 -- ---- a written scan
 
-pub record ReadBack (head : ScanHead) (azimuths values qualities bytes : List ℕ) : Type 0 where
-  pub same-head : headIn bytes ≡ head
-  pub same-azimuths : azimuthsIn bytes ≡ azimuths
-  pub same-values : valuesIn bytes ≡ values
-  pub same-qualities : qualitiesIn bytes ≡ qualities
-  pub same-refusal : (exact : Bool) → recordRefusal bytes exact ≡ scanNumber head exact (allOf azimuthAccepted azimuths) (allOf qualityAccepted qualities)
+pub record ReadBack (scan : Scan) (bytes : List ℕ) : Type 0 where
+  pub same-scan : scanIn bytes ≡ scan
+  pub same-refusal : (exact : Bool) → recordRefusal bytes exact ≡ scanRefusal scan exact
   pub head-not-refused : headRefusal bytes ≡ 0
-  pub lists-not-refused : (a v q : List ℕ) → length a ≡ length azimuths → length v ≡ length values → length q ≡ length qualities → readRefusal bytes a v q ≡ 0
+  pub lists-not-refused : (lists : RecordLists) → length (lists .azimuths) ≡ length (scan .azimuths) → length (lists .values) ≡ length (scan .values) → length (lists .qualities) ≡ length (scan .qualities) → readRefusal bytes lists ≡ 0
 
-pub write-then-read : (head : ScanHead) (azimuths values qualities : List ℕ) (room : ℕ) → ((k : ℕ) → getD values k 0 < 65536) → writeRefusal head azimuths values qualities room ≡ 0 → ReadBack head azimuths values qualities (recordOf head azimuths values qualities)
+pub write-then-read : (scan : Scan) (room : ℕ) → ((k : ℕ) → getD (scan .values) k 0 < 65536) → writeRefusal scan room ≡ 0 → ReadBack scan (recordOf scan)
 unfolding headRefusal readRefusal
-write-then-read head azimuths values qualities room small e =
-    let bytes = recordOf head azimuths values qualities in
-    let accepted = accepted-writing head azimuths values qualities room e in
+write-then-read scan room small e =
+    let bytes = recordOf scan in
+    let accepted = accepted-writing scan room e in
     let stands = stands-whole bytes in
-    let refusal : (exact : Bool) → recordRefusal bytes exact ≡ scanNumber head exact (allOf azimuthAccepted azimuths) (allOf qualityAccepted qualities) =
-    refusal-back head azimuths values qualities bytes room accepted stands refl in
-    let head-same : headIn bytes ≡ head = head-back head azimuths values qualities bytes room accepted stands refl in
-    let exact : listsAccepted head (length azimuths) (length values) (length qualities) ≡ true = accepted .numbers .lengths-accepted in
-    let none : scanNumber head true (allOf azimuthAccepted azimuths) (allOf qualityAccepted qualities) ≡ 0 = rw exact at (accepted .none) in
+    let refusal : (exact : Bool) → recordRefusal bytes exact ≡ scanRefusal scan exact = refusal-back scan bytes room accepted stands refl small in
+    let head-same : headIn bytes ≡ scan .head = head-back scan bytes room accepted stands refl in
+    let exact : listsAccepted (scan .head) (length (scan .azimuths)) (length (scan .values)) (length (scan .qualities)) ≡ true = given-exact scan (accepted .numbers .lengths-accepted) in
+    let none : scanRefusal scan true ≡ 0 = rw (accepted .numbers .lengths-accepted) at (accepted .none) in
     record {
-      same-head = head-same;
-      same-azimuths = azimuths-back head azimuths values qualities bytes room accepted stands refl;
-      same-values = values-back head azimuths values qualities bytes room accepted stands refl small;
-      same-qualities = qualities-back head azimuths values qualities bytes room accepted stands refl;
+      same-scan = scan-back scan bytes room accepted stands refl small;
       same-refusal = refusal;
       head-not-refused = refusal true ∙ none;
-      lists-not-refused = λ a v q p r s. ap (recordRefusal bytes) (rw (head-same, p, r, s, exact)) ∙ refusal true ∙ none;
+      lists-not-refused = λ lists p r s. ap (recordRefusal bytes) (rw (head-same, p, r, s, exact)) ∙ refusal true ∙ none;
     }

@@ -6,7 +6,7 @@ use native.Mathlib.Nat.{div-div-eq-div-mul}
 use native.Mathlib.Omega.{arith}
 use lib.ListN.{length, getD, take}
 use lib.Seq.{sets, take-all, length-take-le}
-use Rattle.remap.specs.declared.scan.ScanHead.{ScanHead}
+use Rattle.remap.specs.Scan.{Scan}
 use Rattle.scan_record.specs.BigEndian.{bytesOf, allBytesOf}
 use Rattle.scan_record.specs.RecordBytes.{siteBytes, gatesBytes, gridBytes, weightingByte, contentsOf, headerBytes, fieldBytes, fieldsBytes, recordOf}
 use Rattle.scan_record.proofs.BigEndianLaws.{bytes-length, all-bytes-length, all-bytes-more}
@@ -72,13 +72,13 @@ fields-more a at tag content contents e p f =
     sets-then a at (fieldBytes tag content) (fieldsBytes (suc tag) contents) e (p ∙ ap (λ (k : ℕ). at + k) (sym (field-length tag content))) f
 
 -- the whole record
-pub record-stored : (head : ScanHead) (azimuths values qualities a : List ℕ) {b c d e f g h : List ℕ} {weighting-place azimuths-place values-place qualities-place : ℕ} → weighting-place ≡ 29 + length (gridBytes (head .grid)) → azimuths-place ≡ weighting-place + 4 → values-place ≡ azimuths-place + 3 + 4 * length azimuths → qualities-place ≡ values-place + 3 + 2 * length values → b ≡ sets a 0 (fieldBytes 1 (siteBytes (head .site))) → c ≡ sets b 11 (fieldBytes 2 (gatesBytes head)) → d ≡ sets c 26 (fieldBytes 3 (gridBytes (head .grid))) → e ≡ sets d weighting-place (fieldBytes 4 (bytesOf 1 (weightingByte (head .weighting)))) → f ≡ sets e azimuths-place (fieldBytes 5 (allBytesOf 4 azimuths)) → g ≡ sets f values-place (fieldBytes 6 (allBytesOf 2 values)) → h ≡ sets g qualities-place (fieldBytes 7 (allBytesOf 1 qualities)) → h ≡ sets a 0 (recordOf head azimuths values qualities)
+pub record-stored : (scan : Scan) (a : List ℕ) {b c d e f g h : List ℕ} {weighting-place azimuths-place values-place qualities-place : ℕ} → weighting-place ≡ 29 + length (gridBytes (scan .head .grid)) → azimuths-place ≡ weighting-place + 4 → values-place ≡ azimuths-place + 3 + 4 * length (scan .azimuths) → qualities-place ≡ values-place + 3 + 2 * length (scan .values) → b ≡ sets a 0 (fieldBytes 1 (siteBytes (scan .head .site))) → c ≡ sets b 11 (fieldBytes 2 (gatesBytes (scan .head))) → d ≡ sets c 26 (fieldBytes 3 (gridBytes (scan .head .grid))) → e ≡ sets d weighting-place (fieldBytes 4 (bytesOf 1 (weightingByte (scan .head .weighting)))) → f ≡ sets e azimuths-place (fieldBytes 5 (allBytesOf 4 (scan .azimuths))) → g ≡ sets f values-place (fieldBytes 6 (allBytesOf 2 (scan .values))) → h ≡ sets g qualities-place (fieldBytes 7 (allBytesOf 1 (scan .qualities))) → h ≡ sets a 0 (recordOf scan)
 unfolding contentsOf recordOf
-record-stored head azimuths values qualities a {b} {c} {d} {e} {f} {g} {h} {weighting-place} {azimuths-place} {values-place} {qualities-place} p₄ p₅ p₆ p₇ site gates grid weighting azimuths-field values-field qualities-field =
-    fields-more a 0 1 _ _ site (omega (arith, site-length (head .site)))
-    (fields-more b 11 2 _ _ gates (omega (arith, gates-length head))
+record-stored scan a {b} {c} {d} {e} {f} {g} {h} {weighting-place} {azimuths-place} {values-place} {qualities-place} p₄ p₅ p₆ p₇ site gates grid weighting azimuths-field values-field qualities-field =
+    fields-more a 0 1 _ _ site (omega (arith, site-length (scan .head .site)))
+    (fields-more b 11 2 _ _ gates (omega (arith, gates-length (scan .head)))
     (fields-more c 26 3 _ _ grid (omega arith)
-    (fields-more d weighting-place 4 _ _ weighting (omega (arith, bytes-length 1 (weightingByte (head .weighting))))
-    (fields-more e azimuths-place 5 _ _ azimuths-field (omega (arith, all-bytes-length 4 azimuths))
-    (fields-more f values-place 6 _ _ values-field (omega (arith, all-bytes-length 2 values))
-    (fields-more g qualities-place 7 _ _ {place = qualities-place + (3 + length (allBytesOf 1 qualities))} qualities-field refl (fields-none h _ 8)))))))
+    (fields-more d weighting-place 4 _ _ weighting (omega (arith, bytes-length 1 (weightingByte (scan .head .weighting))))
+    (fields-more e azimuths-place 5 _ _ azimuths-field (omega (arith, all-bytes-length 4 (scan .azimuths)))
+    (fields-more f values-place 6 _ _ values-field (omega (arith, all-bytes-length 2 (scan .values)))
+    (fields-more g qualities-place 7 _ _ {place = qualities-place + (3 + length (allBytesOf 1 (scan .qualities)))} qualities-field refl (fields-none h _ 8)))))))

@@ -2,31 +2,38 @@
 use mathlib.Core.Bool.{_&&_, cond}
 use mathlib.Core.List.{List, [], _++_}
 use mathlib.Core.Path.{_≡_}
-use Prim.Native.Nat.{ℕ, zero, suc, _-_}
+use Prim.Native.Nat.{ℕ, _-_}
+use denote.Triple.Both.{Both}
 use lib.Dec.{eqb}
 use lib.ListN.{length, take, drop}
+use Rattle.placement.specs.Answer.{Answer, gives, refuses, answered, afterwards}
 use Rattle.placement.specs.Refusal.{inRange}
 use Rattle.remap.specs.declared.scan.ScanHead.{ScanHead}
-use Rattle.placement.specs.Answer.{afterwards}
+use Rattle.remap.specs.Scan.{Scan}
 use Rattle.scan_record.specs.declared.reader.ReadScan.{ReadScan}
 use Rattle.scan_record.specs.declared.reader.ReadScan.the-variants as read
 use Rattle.scan_record.specs.declared.writer.WrittenScan.{WrittenScan}
 use Rattle.scan_record.specs.declared.writer.WrittenScan.the-variants as written
 use Rattle.scan_record.specs.RecordBytes.{recordOf}
+use Rattle.scan_record.specs.RecordLists.{RecordLists}
 use Rattle.scan_record.specs.RecordPlaces.{contentLength, contentStart, headIn, azimuthsIn, valuesIn, qualitiesIn}
 use Rattle.scan_record.specs.RecordRefusal.{headRefusal, readRefusal, writeRefusal}
 
 -- ---- the reader
 
-unfoldable pub readAnswer : ℕ → ScanHead → ReadScan
-readAnswer zero head = read.Head head
-readAnswer (suc number) head = read.Refused (suc number)
+-- what the lists hold once they are filled
+unfoldable pub listsIn : List ℕ → RecordLists
+listsIn bytes = record { azimuths = azimuthsIn bytes; values = valuesIn bytes; qualities = qualitiesIn bytes }
 
-pub record Reading (bytes azimuths values qualities : List ℕ) (answer : ReadScan) (azimuths′ values′ qualities′ : List ℕ) : Type 0 where
-  pub the-answer : answer ≡ readAnswer (readRefusal bytes azimuths values qualities) (headIn bytes)
-  pub the-azimuths : azimuths′ ≡ afterwards (readRefusal bytes azimuths values qualities) azimuths (azimuthsIn bytes)
-  pub the-values : values′ ≡ afterwards (readRefusal bytes azimuths values qualities) values (valuesIn bytes)
-  pub the-qualities : qualities′ ≡ afterwards (readRefusal bytes azimuths values qualities) qualities (qualitiesIn bytes)
+-- document 01's number and values for each case of the answer
+unfoldable pub readAnswer : ReadScan → Answer ScanHead
+readAnswer (read.Head head) = gives head
+readAnswer (read.Refused number) = refuses number
+
+-- what is promised of any bytes and the lists that are lent for them
+pub record Reads (bytes : List ℕ) (lists : Both RecordLists RecordLists) (answer : ReadScan) : Type 0 where
+  pub the-answer : readAnswer answer ≡ answered (readRefusal bytes (lists .entry)) (headIn bytes)
+  pub the-lists : lists .exit ≡ afterwards (readRefusal bytes (lists .entry)) (lists .entry) (listsIn bytes)
 
 -- ---- a field's part: a refused record or a field number other than 1 to 7 gives an empty part
 
@@ -46,10 +53,16 @@ fieldPlace bytes number = cond (inRange 1 7 number) (contentStart bytes (number 
 
 -- ---- the writer: it answers the record's length and touches nothing past its end
 
-unfoldable pub writtenAnswer : ℕ → ℕ → WrittenScan
-writtenAnswer zero length = written.Length length
-writtenAnswer (suc number) length = written.Refused (suc number)
+-- document 01's number and value for each case of the answer
+unfoldable pub writtenAnswer : WrittenScan → Answer ℕ
+writtenAnswer (written.Length size) = gives size
+writtenAnswer (written.Refused number) = refuses number
 
-pub record Writing (head : ScanHead) (azimuths values qualities buffer : List ℕ) (answer : WrittenScan) (buffer′ : List ℕ) : Type 0 where
-  pub the-answer : answer ≡ writtenAnswer (writeRefusal head azimuths values qualities (length buffer)) (length (recordOf head azimuths values qualities))
-  pub the-buffer : buffer′ ≡ afterwards (writeRefusal head azimuths values qualities (length buffer)) buffer (recordOf head azimuths values qualities ++ drop (length (recordOf head azimuths values qualities)) buffer)
+-- the record, and behind it what stood there
+unfoldable pub bufferWith : Scan → List ℕ → List ℕ
+bufferWith scan buffer = recordOf scan ++ drop (length (recordOf scan)) buffer
+
+-- what is promised of every scan and every buffer
+pub record Writes (scan : Scan) (buffer : Both (List ℕ) (List ℕ)) (answer : WrittenScan) : Type 0 where
+  pub the-answer : writtenAnswer answer ≡ answered (writeRefusal scan (length (buffer .entry))) (length (recordOf scan))
+  pub the-buffer : buffer .exit ≡ afterwards (writeRefusal scan (length (buffer .entry))) (buffer .entry) (bufferWith scan (buffer .entry))

@@ -8,6 +8,7 @@ use Rattle.placement.specs.declared.position.Site.{Site}
 use Rattle.remap.specs.declared.gates.Weighting.{Weighting}
 use Rattle.remap.specs.declared.gates.Weighting.the-variants.{Plain, ByQuality}
 use Rattle.remap.specs.declared.scan.ScanHead.{ScanHead}
+use Rattle.remap.specs.Scan.{Scan}
 use Rattle.scan_record.specs.BigEndian.{bytesOf, allBytesOf, signedBytesOf}
 
 -- 1: latitude, longitude (4 bytes each, two's complement)
@@ -32,15 +33,15 @@ weightingByte Plain = 0
 weightingByte ByQuality = 1
 
 -- the contents of the seven fields, in order; 5: azimuths (4 each), 6: values (2 each), 7: qualities (1 each)
-unfoldable pub contentsOf : ScanHead → List ℕ → List ℕ → List ℕ → List (List ℕ)
-contentsOf head azimuths values qualities =
-    siteBytes (head .site)
-    ∷ gatesBytes head
-    ∷ gridBytes (head .grid)
-    ∷ bytesOf 1 (weightingByte (head .weighting))
-    ∷ allBytesOf 4 azimuths
-    ∷ allBytesOf 2 values
-    ∷ allBytesOf 1 qualities
+unfoldable pub contentsOf : Scan → List (List ℕ)
+contentsOf scan =
+    siteBytes (scan .head .site)
+    ∷ gatesBytes (scan .head)
+    ∷ gridBytes (scan .head .grid)
+    ∷ bytesOf 1 (weightingByte (scan .head .weighting))
+    ∷ allBytesOf 4 (scan .azimuths)
+    ∷ allBytesOf 2 (scan .values)
+    ∷ allBytesOf 1 (scan .qualities)
     ∷ []
 
 -- a field: a one-byte tag and a two-byte length, then content
@@ -55,5 +56,5 @@ unfoldable pub fieldsBytes : ℕ → List (List ℕ) → List ℕ
 fieldsBytes tag [] = []
 fieldsBytes tag (content ∷ contents) = fieldBytes tag content ++ fieldsBytes (suc tag) contents
 
-unfoldable pub recordOf : ScanHead → List ℕ → List ℕ → List ℕ → List ℕ
-recordOf head azimuths values qualities = fieldsBytes 1 (contentsOf head azimuths values qualities)
+unfoldable pub recordOf : Scan → List ℕ
+recordOf scan = fieldsBytes 1 (contentsOf scan)

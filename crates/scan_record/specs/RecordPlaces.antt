@@ -12,6 +12,7 @@ use Rattle.placement.specs.declared.position.Site.{Site}
 use Rattle.remap.specs.declared.gates.Weighting.{Weighting}
 use Rattle.remap.specs.declared.gates.Weighting.the-variants.{Plain, ByQuality}
 use Rattle.remap.specs.declared.scan.ScanHead.{ScanHead}
+use Rattle.remap.specs.Scan.{Scan}
 use Rattle.scan_record.specs.BigEndian.{numberAt, numbersAt, signedAt}
 
 -- 0 plain, 1 by quality
@@ -83,3 +84,7 @@ module _ (bytes : List ℕ) where
 
   unfoldable pub qualitiesIn : List ℕ
   qualitiesIn = numbersAt 1 bytes (contentStart 6) gatesIn
+
+  -- the scan of the record
+  unfoldable pub scanIn : Scan
+  scanIn = record { head = headIn; azimuths = azimuthsIn; values = valuesIn; qualities = qualitiesIn }

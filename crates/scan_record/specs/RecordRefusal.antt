@@ -4,14 +4,13 @@ use mathlib.Core.List.{List, [], _∷_}
 use Prim.Native.Nat.{ℕ, zero, suc, _+_}
 use lib.Dec.{leb, eqb}
 use lib.ListN.{length, getD}
-use Rattle.arithmetic.specs.Places.{allOf}
-use Rattle.placement.specs.Refusal.{azimuthAccepted, _unless_, firstRefusal}
-use Rattle.remap.specs.declared.scan.ScanHead.{ScanHead}
-use Rattle.remap.specs.Scan.{gatesOf}
-use Rattle.remap.specs.ScanRefusal.{listsAccepted, qualityAccepted, scanNumber}
+use Rattle.placement.specs.Refusal.{_unless_, firstRefusal}
+use Rattle.remap.specs.Scan.{Scan, gatesOf}
+use Rattle.remap.specs.ScanRefusal.{listsAccepted, givenExact, scanRefusal}
 use Rattle.scan_record.specs.BigEndian.{numberAt}
 use Rattle.scan_record.specs.RecordBytes.{recordOf}
-use Rattle.scan_record.specs.RecordPlaces.{gridLength, contentLength, fieldStart, contentStart, headIn, azimuthsIn, qualitiesIn}
+use Rattle.scan_record.specs.RecordPlaces.{gridLength, contentLength, fieldStart, contentStart, headIn, scanIn}
+use Rattle.scan_record.specs.RecordLists.{RecordLists}
 
 -- the first refusal, or the second where there is none
 infixl 15 _then_
@@ -52,20 +51,19 @@ module _ (bytes : List ℕ) where
 
   -- then 1 to 8, where 6 is given unless the lists have their lengths
   unfoldable pub recordRefusal : Bool → ℕ
-  recordRefusal listsExact =
-      layoutRefusal
-      then scanNumber (headIn bytes) listsExact (allOf azimuthAccepted (azimuthsIn bytes)) (allOf qualityAccepted (qualitiesIn bytes))
+  recordRefusal listsExact = layoutRefusal then scanRefusal (scanIn bytes) listsExact
 
 -- calls that lend no lists check the same without 6
 unfoldable pub headRefusal : List ℕ → ℕ
 headRefusal bytes = recordRefusal bytes true
 
-unfoldable pub readRefusal : List ℕ → List ℕ → List ℕ → List ℕ → ℕ
-readRefusal bytes azimuths values qualities =
-    recordRefusal bytes (listsAccepted (headIn bytes) (length azimuths) (length values) (length qualities))
+-- 6 is for the three lists that the reader fills
+unfoldable pub readRefusal : List ℕ → RecordLists → ℕ
+readRefusal bytes lists =
+    recordRefusal bytes (listsAccepted (headIn bytes) (length (lists .azimuths)) (length (lists .values)) (length (lists .qualities)))
 
--- 1 to 8, then 15, 16; the buffer's length comes last
-unfoldable pub writeRefusal : ScanHead → List ℕ → List ℕ → List ℕ → ℕ → ℕ
-writeRefusal head azimuths values qualities room =
-    scanNumber head (listsAccepted head (length azimuths) (length values) (length qualities)) (allOf azimuthAccepted azimuths) (allOf qualityAccepted qualities)
-    then firstRefusal ((15 unless leb (gatesOf head) 32767) ∷ (16 unless leb (length (recordOf head azimuths values qualities)) room) ∷ [])
+-- 1 to 8, where 6 is for the scan's own lists, then 15, 16; the buffer's length comes last
+unfoldable pub writeRefusal : Scan → ℕ → ℕ
+writeRefusal scan room =
+    scanRefusal scan (givenExact scan)
+    then firstRefusal ((15 unless leb (gatesOf (scan .head)) 32767) ∷ (16 unless leb (length (recordOf scan)) room) ∷ [])

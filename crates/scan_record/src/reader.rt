@@ -12,7 +12,9 @@ ghost use lib.ListN.{length};
 ghost use Rattle.scan_record.specs.BigEndian.{numbersAt};
 ghost use Rattle.scan_record.specs.RecordPlaces.{contentStart, headIn};
 ghost use Rattle.scan_record.specs.RecordRefusal.{headRefusal};
-ghost use Rattle.scan_record.specs.RecordAnswer.{readAnswer, Reading};
+ghost use Rattle.placement.specs.Answer.{answered};
+ghost use Rattle.scan_record.specs.RecordLists.{lentRecordLists};
+ghost use Rattle.scan_record.specs.RecordAnswer.{readAnswer, Reads};
 
 pub enum ReadScan {
     Head(ScanHead),
@@ -21,7 +23,7 @@ pub enum ReadScan {
 
 // Any bytes; it tells the number of a refused record.
 pub fn read_head(bytes: &[u8]) -> ReadScan
-    ensures { λ r. ⌜ r ≡ readAnswer (headRefusal (now (bytes .entry))) (headIn (now (bytes .entry))) ⌝ }
+    ensures { λ r. ⌜ readAnswer r ≡ answered (headRefusal (now (bytes .entry))) (headIn (now (bytes .entry))) ⌝ }
 {
     let number = record_refusal(bytes, true);
     if number != 0 {
@@ -37,7 +39,7 @@ pub fn read_scan(
     values: &mut [u16],
     qualities: &mut [u8],
 ) -> ReadScan
-    ensures { λ r. ⌜ Reading (now (bytes .entry)) (now (azimuths .entry)) (now (values .entry)) (now (qualities .entry)) r (now (azimuths .exit)) (now (values .exit)) (now (qualities .exit)) ⌝ }
+    ensures { λ r. ⌜ Reads (now (bytes .entry)) (lentRecordLists azimuths values qualities) r ⌝ }
 {
     let head = head_in(bytes);
     let lists_exact = remap::lists_accepted(head, azimuths.len(), values.len(), qualities.len());

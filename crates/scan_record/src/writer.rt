@@ -12,11 +12,12 @@ ghost use mathlib.Core.Path.{_≡_};
 ghost use Prim.Native.Nat.{_≤_};
 ghost use lib.ListN.{length};
 ghost use lib.Seq.{sets};
-ghost use Rattle.remap.specs.Scan.{gatesOf};
+ghost use Rattle.remap.specs.Scan.{gatesOf, scanHeld};
 ghost use Rattle.scan_record.specs.RecordBytes.{gridBytes, recordOf};
 ghost use Rattle.scan_record.specs.RecordRefusal.{writeRefusal};
 ghost use Rattle.scan_record.specs.RecordRoom.{recordLength, Writable};
-ghost use Rattle.scan_record.specs.RecordAnswer.{Writing};
+ghost use Rattle.scan_record.specs.RecordLists.{lentBytes};
+ghost use Rattle.scan_record.specs.RecordAnswer.{Writes};
 
 pub enum WrittenScan {
     Length(usize),
@@ -31,7 +32,7 @@ pub fn write_scan(
     qualities: &[u8],
     buffer: &mut [u8],
 ) -> WrittenScan
-    ensures { λ r. ⌜ Writing head (now (azimuths .entry)) (now (values .entry)) (now (qualities .entry)) (now (buffer .entry)) r (now (buffer .exit)) ⌝ }
+    ensures { λ r. ⌜ Writes (scanHeld head (azimuths .entry) (values .entry) (qualities .entry)) (lentBytes buffer) r ⌝ }
 {
     let refusal = write_refusal(head, azimuths, values, qualities, buffer.len());
     if refusal != 0 {
@@ -49,7 +50,7 @@ fn write_refusal(
     qualities: &[u8],
     room: usize,
 ) -> u32
-    ensures { λ r. ⌜ r ≡ writeRefusal head (now (azimuths .entry)) (now (values .entry)) (now (qualities .entry)) room ⌝ }
+    ensures { λ r. ⌜ r ≡ writeRefusal (scanHeld head (azimuths .entry) (values .entry) (qualities .entry)) room ⌝ }
 {
     let lists_exact = remap::lists_accepted(head, azimuths.len(), values.len(), qualities.len());
     let number = remap::scan_refusal(
@@ -89,8 +90,8 @@ fn record_length(head: ScanHead) -> usize
 
 // The seven fields, one behind the other.
 fn put_record(head: ScanHead, azimuths: &[u32], values: &[u16], qualities: &[u8], buffer: &mut [u8])
-    requires { ⌜ Writable head (now azimuths) (now values) (now qualities) (length (now buffer)) ⌝ }
-    ensures { λ _. ⌜ now (buffer .exit) ≡ sets (now (buffer .entry)) 0 (recordOf head (now (azimuths .entry)) (now (values .entry)) (now (qualities .entry))) ⌝ }
+    requires { ⌜ Writable (scanHeld head azimuths values qualities) (length (now buffer)) ⌝ }
+    ensures { λ _. ⌜ now (buffer .exit) ≡ sets (now (buffer .entry)) 0 (recordOf (scanHeld head (azimuths .entry) (values .entry) (qualities .entry))) ⌝ }
 {
     let site = head.site;
     let grid = head.grid;

@@ -1,8 +1,8 @@
 -- `scan_record::reader::read_head` meets its contract. Assumes nothing.
-use mathlib.Core.Path.{sym, ap, _∙_}
+use mathlib.Core.Path.{sym, _∙_}
 use Rattle.scan_record.specs.RecordRefusal.{headRefusal}
-use Rattle.scan_record.specs.declared.reader.ReadScan.the-variants.{Head}
-use Rattle.scan_record.proofs.ReadAnswers.{refused-read, head-read}
+use Rattle.scan_record.specs.RecordAnswer.{readAnswer}
+use Rattle.placement.proofs.AnswerLaws.{is-given, is-refused}
 use borrow.Author.Needs.{needs}
 use Rattle.scan_record.proofs.reader.read_head.Statement.{statement}
 use Rattle.scan_record.proofs.reader.read_head.Tie as tie
@@ -11,15 +11,15 @@ record-refusal-requires : tie.Need-record-refusal-requires
 record-refusal-requires c κs = search needs
 
 returns : tie.Need-returns
-unfolding headRefusal
-returns c = rw (sym (c .before .record-refusal .ensures)) (refused-read _ _ (c .if1 .taken))
+unfolding headRefusal readAnswer
+returns c = rw (sym (c .before .record-refusal .ensures)) (is-refused _ _ (c .if1 .taken))
 
 head-in-requires : tie.Need-head-in-requires
 head-in-requires c κs = search needs
 
 returns-2 : tie.Need-returns-2
-unfolding headRefusal
-returns-2 c = ap Head (c .head-in .ensures) ∙ head-read _ (sym (c .before .before .record-refusal .ensures) ∙ c .before .if1 .left)
+unfolding headRefusal readAnswer
+returns-2 c = is-given (sym (c .before .before .record-refusal .ensures) ∙ c .before .if1 .left) (c .head-in .ensures)
 
 pub read-head-spec : {M : Type 1} → statement M
 read-head-spec = tie.close (tie.spec record-refusal-requires returns head-in-requires returns-2)

@@ -1,5 +1,7 @@
 -- `scan_record::refusal::record_refusal` meets its contract. Assumes nothing.
 use mathlib.Core.Path.{sym, _∙_}
+use Rattle.remap.specs.ScanRefusal.{scanRefusal}
+use Rattle.scan_record.specs.RecordPlaces.{scanIn}
 use Rattle.scan_record.specs.RecordRefusal.{recordRefusal}
 use Rattle.scan_record.proofs.Then.{then-kept, then-next}
 use borrow.Author.Needs.{needs}
@@ -26,7 +28,7 @@ scan-refusal-requires : tie.Need-scan-refusal-requires
 scan-refusal-requires c κs = search needs
 
 returns-2 : tie.Need-returns-2
-unfolding recordRefusal
+unfolding recordRefusal scanRefusal scanIn
 returns-2 c = c .scan-refusal .ensures
     ∙ simp (c .before .before .before .head-in .ensures, c .before .before .azimuths-accepted .ensures, c .before .qualities-accepted .ensures)
     (sym (then-next _ (sym (c .before .before .before .before .before .layout-refusal .ensures) ∙ c .before .before .before .before .if1 .left)))

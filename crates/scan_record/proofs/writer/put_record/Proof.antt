@@ -3,6 +3,7 @@ use mathlib.Core.Path.{refl, ap}
 use Prim.Native.Nat.{ℕ, _+_}
 use native.Mathlib.Omega.{arith}
 use borrow.Author.Needs.{needs}
+use Rattle.remap.specs.Scan.{scanHeld}
 use Rattle.scan_record.specs.RecordRoom.{recordLength}
 use Rattle.scan_record.proofs.ContentLengths.{grid-length-most}
 use Rattle.scan_record.proofs.WrittenBytes.{record-stored}
@@ -88,7 +89,7 @@ returns c =
     let gates = grid .before .before .before .before in
     let site = gates .before .before .before .before in
     let args = site .before .before .before .before .before .before .before .args in
-    record-stored (args .head) (args .azimuths .now) (args .values .now) (args .qualities .now) (args .buffer .now)
+    record-stored (scanHeld (args .head) (args .azimuths) (args .values) (args .qualities)) (args .buffer .now)
     (ap (λ (n : ℕ). 29 + n) (counted .grid-bytes .ensures)) refl refl refl
     (site .put-site .ensures) (gates .put-gates .ensures) (grid .put-grid .ensures) (weighting .put-weighting .ensures)
     (azimuths .put-azimuths .ensures) (values .put-values .ensures) (qualities .put-qualities .ensures)

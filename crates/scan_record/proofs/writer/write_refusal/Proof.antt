@@ -3,7 +3,9 @@ use mathlib.Core.Path.{_≡_, sym, _∙_}
 use Prim.Native.Nat.{ℕ}
 use native.Mathlib.Omega.{arith}
 use borrow.Author.Needs.{needs}
-use Rattle.scan_record.proofs.WriterAccepted.{scanNumberOf, refused-scan, refused-gates, refused-room, not-refused}
+use Rattle.remap.specs.Scan.{scanHeld}
+use Rattle.remap.specs.ScanRefusal.{givenExact, scanRefusal}
+use Rattle.scan_record.proofs.WriterAccepted.{refused-scan, refused-gates, refused-room, not-refused}
 use Rattle.scan_record.proofs.writer.write_refusal.Statement.{statement}
 use Rattle.scan_record.proofs.writer.write_refusal.Tie as tie
 
@@ -12,9 +14,12 @@ given c = c .before .before .before .before .before .before .before
 
 -- the number of the scan itself
 abbrev number : tie.Start → ℕ
-number s = scanNumberOf (s .args .head) (s .args .azimuths .now) (s .args .values .now) (s .args .qualities .now)
+number s =
+    let scan = scanHeld (s .args .head) (s .args .azimuths) (s .args .values) (s .args .qualities) in
+    scanRefusal scan (givenExact scan)
 
 is-number : (c : tie.After-scan-refusal) → c .scan-refusal .result ≡ number (given c)
+unfolding scanRefusal givenExact
 is-number c =
     let lists = c .before in
     c .scan-refusal .ensures
@@ -36,22 +41,22 @@ scan-refusal-requires : tie.Need-scan-refusal-requires
 scan-refusal-requires c κs = search needs
 
 returns : tie.Need-returns
-returns c = is-number (c .before) ∙ refused-scan _ _ _ _ _ (λ e. c .if1 .taken (is-number (c .before) ∙ e))
+returns c = is-number (c .before) ∙ refused-scan _ _ (λ e. c .if1 .taken (is-number (c .before) ∙ e))
 
 gates-of-requires : tie.Need-gates-of-requires
 gates-of-requires c κs = search needs
 
 returns-2 : tie.Need-returns-2
-returns-2 c = refused-gates _ _ _ _ _ (accepted (c .before .before)) (omega arith)
+returns-2 c = refused-gates _ _ (accepted (c .before .before)) (omega arith)
 
 record-length-requires : tie.Need-record-length-requires
 record-length-requires c κs = search needs
 
 returns-3 : tie.Need-returns-3
-returns-3 c = refused-room _ _ _ _ _ (accepted (c .before .before .before .before)) (omega arith) (omega arith)
+returns-3 c = refused-room _ _ (accepted (c .before .before .before .before)) (omega arith) (omega arith)
 
 returns-4 : tie.Need-returns-4
-returns-4 c = not-refused _ _ _ _ _ (accepted (c .before .before .before .before)) (omega arith) (omega arith)
+returns-4 c = not-refused _ _ (accepted (c .before .before .before .before)) (omega arith) (omega arith)
 
 pub write-refusal-spec : {M : Type 1} → statement M
 write-refusal-spec =

@@ -3,9 +3,11 @@ use mathlib.Core.Path.{_≡_, sym, _∙_}
 use Prim.Native.Nat.{ℕ}
 use borrow.Author.Needs.{needs}
 use lib.ListN.{length}
-use Rattle.placement.proofs.AnswerLaws.{kept, filled}
+use Rattle.placement.proofs.AnswerLaws.{is-given, is-refused, kept, filled}
+use Rattle.remap.specs.Scan.{scanHeld}
 use Rattle.scan_record.specs.RecordRefusal.{writeRefusal}
-use Rattle.scan_record.proofs.WriterAccepted.{writable, size-known, record-placed, refused-answer, written-answer}
+use Rattle.scan_record.specs.RecordAnswer.{writtenAnswer}
+use Rattle.scan_record.proofs.WriterAccepted.{writable, size-known, record-placed}
 use Rattle.scan_record.proofs.writer.write_scan.Statement.{statement}
 use Rattle.scan_record.proofs.writer.write_scan.Tie as tie
 
@@ -14,7 +16,7 @@ given c = c .before .before .before .before .before
 
 -- the refusal of the scan and buffer that came in
 abbrev number : tie.Start → ℕ
-number s = writeRefusal (s .args .head) (s .args .azimuths .now) (s .args .values .now) (s .args .qualities .now) (length (s .args .buffer .now))
+number s = writeRefusal (scanHeld (s .args .head) (s .args .azimuths) (s .args .values) (s .args .qualities)) (length (s .args .buffer .now))
 
 accepted : (c : tie.Else1) → number (given (c .before)) ≡ 0
 accepted c = sym (c .before .write-refusal .ensures) ∙ c .if1 .left
@@ -26,27 +28,29 @@ write-refusal-requires : tie.Need-write-refusal-requires
 write-refusal-requires c κs = search needs
 
 returns : tie.Need-returns
+unfolding writtenAnswer
 returns c = record {
-  the-answer = rw (c .before .write-refusal .ensures) (refused-answer _ _ (refused c));
+  the-answer = rw (c .before .write-refusal .ensures) (is-refused _ _ (refused c));
   the-buffer = kept _ _ _ (refused c);
 }
 
 put-record-requires : tie.Need-put-record-requires
-put-record-requires c κs = writable _ _ _ _ _ (accepted (c .before))
+put-record-requires c κs = writable _ _ (accepted (c .before))
 
 record-length-requires : tie.Need-record-length-requires
-record-length-requires c κs = writable _ _ _ _ _ (accepted (c .before .before .before .before)) .gates-most
+record-length-requires c κs = writable _ _ (accepted (c .before .before .before .before)) .gates-most
 
 same-length : tie.Need-same-length
 same-length c = search needs
 
 returns-2 : tie.Need-returns-2
+unfolding writtenAnswer
 returns-2 c =
     let put = c .before .before .before in
     let zero = accepted (put .before .before) in
     record {
-      the-answer = written-answer zero (c .record-length .ensures ∙ sym (size-known _ _ _ _ _ zero));
-      the-buffer = filled _ zero (record-placed _ _ _ _ _ zero (put .put-record .ensures));
+      the-answer = is-given zero (c .record-length .ensures ∙ sym (size-known _ _ zero));
+      the-buffer = filled _ zero (record-placed _ _ zero (put .put-record .ensures));
     }
 
 pub write-scan-spec : {M : Type 1} → statement M
