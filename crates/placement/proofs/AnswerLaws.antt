@@ -2,7 +2,7 @@
 use mathlib.Core.Path.{_≡_, refl}
 use Prim.Native.Nat.{ℕ, zero, suc}
 use native.Mathlib.Omega.{arith}
-use Rattle.placement.specs.Answer.{Answer, gives, refuses, answered, afterwards}
+use Rattle.placement.specs.Answer.{gives, refuses, answered, numberIn, leftBy, afterwards}
 
 -- ---- from a refusal number to the answer
 
@@ -41,3 +41,15 @@ filled before e f = rw e f
 pub filled-is : {A : Type 0} {number : ℕ} {left : A} (before : A) {after : A} → number ≡ 0 → left ≡ afterwards number before after → left ≡ after
 unfolding afterwards
 filled-is before e f = rw e at f
+
+-- ---- the answer as a number, and what it leaves
+
+pub number-in : {A : Type 0} (number : ℕ) (values : A) → numberIn (answered number values) ≡ number
+unfolding numberIn answered
+number-in zero values = refl
+number-in (suc number) values = refl
+
+pub left-by : {A : Type 0} (number : ℕ) (before values : A) → leftBy before (answered number values) ≡ afterwards number before values
+unfolding leftBy answered afterwards
+left-by zero before values = refl
+left-by (suc number) before values = refl

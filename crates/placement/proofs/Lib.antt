@@ -12,3 +12,5 @@ pub mod GateNear
 pub mod GateCases
 pub mod StoredTable
 pub mod AnswerLaws
+pub mod UnsignedLaws
+pub mod GateNumbers

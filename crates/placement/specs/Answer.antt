@@ -13,6 +13,15 @@ unfoldable pub answered : {A : Type 0} → ℕ → A → Answer A
 answered zero values = gives values
 answered (suc number) values = refuses (suc number)
 
+-- an answer as a number, 0 for done, and what is lent for its values, afterwards
+unfoldable pub numberIn : {A : Type 0} → Answer A → ℕ
+numberIn (gives values) = 0
+numberIn (refuses number) = number
+
+unfoldable pub leftBy : {A : Type 0} → A → Answer A → A
+leftBy before (gives values) = values
+leftBy before (refuses number) = before
+
 -- everything that was lent, afterwards: a refusal leaves it as it came in
 unfoldable pub afterwards : {A : Type 0} → ℕ → A → A → A
 afterwards zero before after = after

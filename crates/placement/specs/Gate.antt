@@ -1,9 +1,11 @@
 -- The placement of one gate: its cell and position, or outside and position, or a refusal. Assumes nothing.
 use Prim.Native.Nat.{ℕ, zero, suc}
+use lib.IntN.{ℤ}
 use Rattle.placement.specs.declared.gate.Placement.{Placement}
 use Rattle.placement.specs.declared.gate.Placement.the-variants.{Inside, Outside, Refused}
 use Rattle.placement.specs.declared.grid.Grid.{Grid}
 use Rattle.placement.specs.declared.position.Site.{Site}
+use Rattle.placement.specs.Answer.{Answer, gives, refuses}
 use Rattle.placement.specs.Sphere.{sphereOf}
 use Rattle.placement.specs.Position.{positionOf}
 use Rattle.placement.specs.Window.{windowOf, located}
@@ -21,14 +23,29 @@ placementOf site grid azimuth range =
 
 -- ---- document 01's numbers for each case of the answer
 
+abbrev pub outsideEntry : ℕ
+outsideEntry = 4294967295
+
 -- the ledger entry: the cell, or 4,294,967,295
 unfoldable pub entryOf : Placement → ℕ
 entryOf (Inside cell x y) = cell
-entryOf (Outside x y) = 4294967295
-entryOf (Refused number) = 4294967295
+entryOf (Outside x y) = outsideEntry
+entryOf (Refused number) = outsideEntry
 
--- the refusal number, or 0
-unfoldable pub refusalOf : Placement → ℕ
-refusalOf (Inside cell x y) = 0
-refusalOf (Outside x y) = 0
-refusalOf (Refused number) = number
+-- what is told of a gate that is not refused: its entry and its position
+pub record PlacedGate : Type 0 where
+  pub entry : ℕ
+  pub x : ℤ
+  pub y : ℤ
+
+-- these three numbers, or the refusal number
+unfoldable pub placementAnswer : Placement → Answer PlacedGate
+placementAnswer (Inside cell x y) = gives (record { entry = cell; x = x; y = y })
+placementAnswer (Outside x y) = gives (record { entry = outsideEntry; x = x; y = y })
+placementAnswer (Refused number) = refuses number
+
+-- those of document 01's rules
+unfoldable pub placedGate : Site → Grid → ℕ → ℕ → PlacedGate
+placedGate site grid azimuth range =
+    let at = positionOf (sphereOf grid) site azimuth range in
+    record { entry = entryOf (located (windowOf grid) at); x = at .x; y = at .y }

@@ -8,6 +8,7 @@ pub mod Terms
 pub mod Window
 pub mod Refusal
 pub mod Gate
+pub mod Unsigned
 pub mod Survey
 pub mod Nearness
 pub mod GateCases

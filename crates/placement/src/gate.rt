@@ -19,10 +19,11 @@ use crate::survey::survey_of;
 ghost use mathlib.Core.Path.{_≡_};
 ghost use mathlib.Core.Bool.{true};
 ghost use Prim.Native.Nat.{_≤_};
-ghost use Rattle.placement.specs.Gate.{placementOf};
+ghost use Rattle.placement.specs.Answer.{answered};
+ghost use Rattle.placement.specs.Gate.{placementOf, placementAnswer, placedGate};
 ghost use Rattle.placement.specs.Nearness.{PositionWithin};
 ghost use Rattle.placement.specs.Position.{positionOf};
-ghost use Rattle.placement.specs.Refusal.{rangeAccepted, siteAccepted, gridAccepted};
+ghost use Rattle.placement.specs.Refusal.{rangeAccepted, siteAccepted, gridAccepted, gateRefusal};
 ghost use Rattle.placement.specs.Sphere.{sphereOf};
 ghost use Rattle.placement.specs.Survey.{Surveyed, surveyed};
 ghost use Rattle.placement.specs.Window.{windowOf, located};
@@ -35,10 +36,11 @@ pub enum Placement {
     Refused(u32),
 }
 
-// Takes any site, grid, azimuth and range whatever. Demand 3: whenever the answer is a position, X and Y each lie within 50
+// Takes any site, grid, azimuth and range whatever. It answers inside, outside or refused, with document 01's numbers. Demand 3: whenever the answer is a position, X and Y each lie within 50
 // centimetres of the exact ones.
 pub fn place(site: Site, grid: Grid, azimuth: u32, range: u32) -> Placement
     ensures rule { λ r. ⌜ r ≡ placementOf site grid azimuth range ⌝ }
+    ensures numbers { λ r. ⌜ placementAnswer r ≡ answered (gateRefusal site grid azimuth range) (placedGate site grid azimuth range) ⌝ }
     ensures within_50_centimetres { λ r. ⌜ PositionWithin 50 site grid azimuth range r ⌝ }
 {
     if !range_accepted(range) {

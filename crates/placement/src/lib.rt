@@ -7,6 +7,7 @@ mod ledger;
 mod position;
 mod refusal;
 mod survey;
+mod unsigned;
 
 pub use gate::Placement;
 pub use gate::place;
@@ -23,3 +24,4 @@ pub use refusal::in_range;
 pub use refusal::site_accepted;
 pub use survey::Survey;
 pub use survey::survey_of;
+pub use unsigned::unsigned32;

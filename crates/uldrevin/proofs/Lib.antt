@@ -1,2 +1,2 @@
-pub mod ScanNumber
-pub mod RecordAnswers
+pub mod StructNumbers
+pub mod StructLimits

@@ -1,3 +1,2 @@
-pub mod Answer
-pub mod ScanNumbers
-pub mod RecordNumbers
+pub mod Structs
+pub mod LentNumbers

@@ -1,91 +1,54 @@
 // The placement of one gate. The answer is 0, with cell, X and Y written, or the refusal number, with the three as they came in. The
 // cell of a gate outside the grid is 4,294,967,295.
-use placement::Grid;
-use placement::HrapGrid;
+use crate::structs::GridNumbers;
+use crate::structs::grid_of;
 use placement::Placement;
-use placement::RadolanGrid;
 use placement::Site;
+use placement::unsigned32;
+ghost use Rattle.placement.specs.Answer.{numberIn, leftBy, Answers};
+ghost use Rattle.placement.specs.Gate.{placementAnswer, placedGate};
+ghost use Rattle.placement.specs.Refusal.{gateRefusal};
+ghost use Rattle.placement.specs.Unsigned as spec;
 ghost use mathlib.Core.Path.{_≡_};
-ghost use Rattle.placement.specs.Gate.{refusalOf};
-ghost use Rattle.uldrevin.specs.Answer.{cellAfter, xAfter, yAfter, radolanPlacement, hrapPlacement};
+ghost use Rattle.uldrevin.specs.LentNumbers.{lentGate};
+ghost use Rattle.uldrevin.specs.Structs.{siteAt, gridAt, gridOf};
 
 #[no_mangle]
-pub extern "C" fn uldrevin_place_radolan(
-    latitude: i64,
-    longitude: i64,
-    corner_x: i64,
-    corner_y: i64,
-    side: u32,
-    columns: u32,
-    rows: u32,
-    azimuth: u32,
-    range: u32,
+pub extern "C" fn uldrevin_place(
+    site: &[i64; 2],
+    grid: &[i64; 6],
+    azimuth: i64,
+    range: i64,
     cell: &mut u32,
     x: &mut i64,
     y: &mut i64,
 ) -> u32
-    ensures { λ r. ⌜ r ≡ refusalOf (radolanPlacement latitude longitude «corner_x» «corner_y» side columns rows azimuth range) ⌝ }
-    ensures { λ r. ⌜ now (cell .exit) ≡ cellAfter (now (cell .entry)) (radolanPlacement latitude longitude «corner_x» «corner_y» side columns rows azimuth range) ⌝ }
-    ensures { λ r. ⌜ now (x .exit) ≡ xAfter (now (x .entry)) (radolanPlacement latitude longitude «corner_x» «corner_y» side columns rows azimuth range) ⌝ }
-    ensures { λ r. ⌜ now (y .exit) ≡ yAfter (now (y .entry)) (radolanPlacement latitude longitude «corner_x» «corner_y» side columns rows azimuth range) ⌝ }
+    ensures { λ r.
+        let at = siteAt (now (site .entry)) 0 in
+        let on = gridOf (gridAt (now (grid .entry)) 0) in
+        ⌜ Answers
+        (gateRefusal at on (spec.unsigned32 azimuth) (spec.unsigned32 range))
+        (placedGate at on (spec.unsigned32 azimuth) (spec.unsigned32 range))
+        (lentGate cell x y) r ⌝ }
 {
-    let grid = Grid::Radolan(RadolanGrid {
-        x: corner_x,
-        y: corner_y,
-        side,
-        columns,
-        rows,
-    });
+    let numbers = GridNumbers {
+        kind: grid[0],
+        x: grid[1],
+        y: grid[2],
+        side: grid[3],
+        columns: grid[4],
+        rows: grid[5],
+    };
+    let place = Site {
+        latitude: site[0],
+        longitude: site[1],
+    };
     answer(
         placement::place(
-            Site {
-                latitude,
-                longitude,
-            },
-            grid,
-            azimuth,
-            range,
-        ),
-        cell,
-        x,
-        y,
-    )
-}
-
-#[no_mangle]
-pub extern "C" fn uldrevin_place_hrap(
-    latitude: i64,
-    longitude: i64,
-    i: i64,
-    j: i64,
-    columns: u32,
-    rows: u32,
-    azimuth: u32,
-    range: u32,
-    cell: &mut u32,
-    x: &mut i64,
-    y: &mut i64,
-) -> u32
-    ensures { λ r. ⌜ r ≡ refusalOf (hrapPlacement latitude longitude i j columns rows azimuth range) ⌝ }
-    ensures { λ r. ⌜ now (cell .exit) ≡ cellAfter (now (cell .entry)) (hrapPlacement latitude longitude i j columns rows azimuth range) ⌝ }
-    ensures { λ r. ⌜ now (x .exit) ≡ xAfter (now (x .entry)) (hrapPlacement latitude longitude i j columns rows azimuth range) ⌝ }
-    ensures { λ r. ⌜ now (y .exit) ≡ yAfter (now (y .entry)) (hrapPlacement latitude longitude i j columns rows azimuth range) ⌝ }
-{
-    let grid = Grid::Hrap(HrapGrid {
-        i,
-        j,
-        columns,
-        rows,
-    });
-    answer(
-        placement::place(
-            Site {
-                latitude,
-                longitude,
-            },
-            grid,
-            azimuth,
-            range,
+            place,
+            grid_of(numbers),
+            unsigned32(azimuth),
+            unsigned32(range),
         ),
         cell,
         x,
@@ -95,10 +58,10 @@ pub extern "C" fn uldrevin_place_hrap(
 
 // Writes a placement through the lent numbers.
 fn answer(placement: Placement, cell: &mut u32, x: &mut i64, y: &mut i64) -> u32
-    ensures { λ r. ⌜ r ≡ refusalOf placement ⌝ }
-    ensures { λ r. ⌜ now (cell .exit) ≡ cellAfter (now (cell .entry)) placement ⌝ }
-    ensures { λ r. ⌜ now (x .exit) ≡ xAfter (now (x .entry)) placement ⌝ }
-    ensures { λ r. ⌜ now (y .exit) ≡ yAfter (now (y .entry)) placement ⌝ }
+    ensures { λ r. ⌜ r ≡ numberIn (placementAnswer placement) ⌝ }
+    ensures { λ r.
+        let gate = lentGate cell x y in
+        ⌜ gate .exit ≡ leftBy (gate .entry) (placementAnswer placement) ⌝ }
 {
     match placement {
         Placement::Inside {

@@ -1,8 +1,8 @@
 // What C, Rust and Python link: the proved functions under C names.
 pub mod gate;
-mod head;
 pub mod record;
 pub mod scan;
+mod structs;
 
 ghost use mathlib.Core.Path.{_≡_};
 ghost use Rattle.sine.specs.Sine.{sineOf, cosineOf};

@@ -5,10 +5,13 @@ use mathlib.Core.Bool.{true, false}
 use borrow.Author.Needs.{needs}
 use borrow.Author.Tests.{not-true, not-false}
 use lib.Dec.{lit≤}
+use Rattle.placement.specs.declared.gate.Placement.{Placement}
+use Rattle.placement.specs.declared.gate.Placement.the-variants.{Refused}
 use Rattle.placement.specs.Gate.{unlessRefused, placementOf}
 use Rattle.placement.specs.Nearness.{PositionWithin}
 use Rattle.placement.specs.Refusal.{rangeAccepted, siteAccepted, gridAccepted, azimuthAccepted, firstRefusal, gateRefusal}
 use Rattle.placement.proofs.GateNear.{located-within}
+use Rattle.placement.proofs.GateNumbers.{numbers-told}
 use Rattle.placement.proofs.GateTerms.{good-gate}
 use Rattle.placement.proofs.gate.place.Statement.{statement}
 use Rattle.placement.proofs.gate.place.Tie as tie
@@ -41,45 +44,70 @@ azimuth-passed c = sym (c .before .azimuth-accepted .ensures) ∙ not-false _ (c
 
 -- ---- the five answers
 
+-- what the rule says of what came in
+abbrev rule : tie.Start → Placement
+rule s = placementOf (s .args .site) (s .args .grid) (s .args .azimuth) (s .args .range)
+
+range-answer : (c : tie.Then1) → Refused 3 ≡ rule (c .before .before)
+unfolding placementOf unlessRefused gateRefusal firstRefusal
+range-answer c = simp (range-refused c)
+
+site-answer : (c : tie.Then2) → Refused 4 ≡ rule (c .before .before .before .before)
+unfolding placementOf unlessRefused gateRefusal firstRefusal
+site-answer c = simp (range-passed (c .before .before), site-refused c)
+
+grid-answer : (c : tie.Then3) → Refused 5 ≡ rule (c .before .before .before .before .before .before)
+unfolding placementOf unlessRefused gateRefusal firstRefusal
+grid-answer c = simp (range-passed (c .before .before .before .before), site-passed (c .before .before), grid-refused c)
+
+azimuth-answer : (c : tie.Then4) → Refused 7 ≡ rule (c .before .before .before .before .before .before .before .before)
+unfolding placementOf unlessRefused gateRefusal firstRefusal
+azimuth-answer c = simp (range-passed (c .before .before .before .before .before .before), site-passed (c .before .before .before .before), grid-passed (c .before .before), azimuth-refused c)
+
+accepted-answer : (c : tie.After-accepted-place) → c .accepted-place .result ≡ rule (c .before .before .before .before .before .before .before .before .before)
+unfolding placementOf unlessRefused gateRefusal firstRefusal
+accepted-answer c =
+    simp (range-passed (c .before .before .before .before .before .before .before), site-passed (c .before .before .before .before .before), grid-passed (c .before .before .before), azimuth-passed (c .before)) (c .accepted-place .ensures)
+
 range-accepted-requires : tie.Need-range-accepted-requires
 range-accepted-requires c κs = search needs
 
 returns : tie.Need-returns
-unfolding placementOf unlessRefused gateRefusal firstRefusal PositionWithin
-returns c = (simp (range-refused c), tt)
+unfolding PositionWithin
+returns c = (range-answer c, (numbers-told _ _ _ _ (range-answer c), tt))
 
 site-accepted-requires : tie.Need-site-accepted-requires
 site-accepted-requires c κs = search needs
 
 returns-2 : tie.Need-returns-2
-unfolding placementOf unlessRefused gateRefusal firstRefusal PositionWithin
-returns-2 c = (simp (range-passed (c .before .before), site-refused c), tt)
+unfolding PositionWithin
+returns-2 c = (site-answer c, (numbers-told _ _ _ _ (site-answer c), tt))
 
 grid-accepted-requires : tie.Need-grid-accepted-requires
 grid-accepted-requires c κs = search needs
 
 returns-3 : tie.Need-returns-3
-unfolding placementOf unlessRefused gateRefusal firstRefusal PositionWithin
-returns-3 c = (simp (range-passed (c .before .before .before .before), site-passed (c .before .before), grid-refused c), tt)
+unfolding PositionWithin
+returns-3 c = (grid-answer c, (numbers-told _ _ _ _ (grid-answer c), tt))
 
 azimuth-accepted-requires : tie.Need-azimuth-accepted-requires
 azimuth-accepted-requires c κs = search needs
 
 returns-4 : tie.Need-returns-4
-unfolding placementOf unlessRefused gateRefusal firstRefusal PositionWithin
-returns-4 c = (simp (range-passed (c .before .before .before .before .before .before), site-passed (c .before .before .before .before), grid-passed (c .before .before), azimuth-refused c), tt)
+unfolding PositionWithin
+returns-4 c = (azimuth-answer c, (numbers-told _ _ _ _ (azimuth-answer c), tt))
 
 accepted-place-requires : tie.Need-accepted-place-requires
 accepted-place-requires c κs = (range-passed (c .before .before .before .before .before .before), site-passed (c .before .before .before .before), grid-passed (c .before .before))
 
 returns-5 : tie.Need-returns-5
-unfolding placementOf unlessRefused gateRefusal firstRefusal
 returns-5 c =
     let s = c .before .before .before .before .before .before .before .before .before in
     let good = good-gate (s .args .site) (s .args .azimuth) (s .args .range) (range-passed (c .before .before .before .before .before .before .before)) (site-passed (c .before .before .before .before .before)) in (
-      simp (range-passed (c .before .before .before .before .before .before .before), site-passed (c .before .before .before .before .before), grid-passed (c .before .before .before), azimuth-passed (c .before)) (c .accepted-place .ensures),
+      accepted-answer c,
+      (numbers-told _ _ _ _ (accepted-answer c),
       subst (PositionWithin _ (s .args .site) (s .args .grid) (s .args .azimuth) (s .args .range)) (sym (c .accepted-place .ensures))
-          (located-within (s .args .site) (s .args .grid) (s .args .azimuth) (s .args .range) good _ (lit≤ tt)),
+          (located-within (s .args .site) (s .args .grid) (s .args .azimuth) (s .args .range) good _ (lit≤ tt))),
     )
 
 pub place-spec : {M : Type 1} → statement M

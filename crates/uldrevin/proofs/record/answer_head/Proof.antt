@@ -1,6 +1,8 @@
 -- `uldrevin::record::answer_head` meets its contract. Assumes nothing.
 use mathlib.Core.Path.{refl}
-use Rattle.uldrevin.specs.RecordNumbers.{readNumber, headAfter}
+use Rattle.placement.specs.Answer.{numberIn}
+use Rattle.scan_record.specs.RecordAnswer.{readAnswer}
+use Rattle.uldrevin.specs.Structs.{headLeft}
 use borrow.Author.Needs.{needs}
 use Rattle.uldrevin.proofs.record.answer_head.Statement.{statement}
 use Rattle.uldrevin.proofs.record.answer_head.Tie as tie
@@ -15,11 +17,11 @@ enum-known-answer-2 : tie.Need-enum-known-answer-2
 enum-known-answer-2 c = search needs
 
 returns : tie.Need-returns
-unfolding readNumber headAfter
+unfolding numberIn readAnswer headLeft
 returns c = rw (c .before .before .before .answer .given .1) (refl, c .put-head .ensures)
 
 returns-2 : tie.Need-returns-2
-unfolding readNumber headAfter
+unfolding numberIn readAnswer headLeft
 returns-2 c = rw (c .before .answer2 .given .1) (refl, refl)
 
 pub answer-head-spec : {M : Type 1} → statement M

@@ -1,6 +1,8 @@
 -- `uldrevin::record::read_number` meets its contract. Assumes nothing.
 use mathlib.Core.Path.{sym, ap}
-use Rattle.uldrevin.specs.RecordNumbers.{readNumber}
+use Rattle.placement.specs.Answer.{numberIn}
+use Rattle.scan_record.specs.declared.reader.ReadScan.{ReadScan}
+use Rattle.scan_record.specs.RecordAnswer.{readAnswer}
 use borrow.Author.Needs.{needs}
 use Rattle.uldrevin.proofs.record.read_number.Statement.{statement}
 use Rattle.uldrevin.proofs.record.read_number.Tie as tie
@@ -12,12 +14,12 @@ enum-known-answer : tie.Need-enum-known-answer
 enum-known-answer c = search needs
 
 returns : tie.Need-returns
-unfolding readNumber
-returns c = sym (ap readNumber (c .enum-told .given .1))
+unfolding numberIn readAnswer
+returns c = sym (ap (λ (answer : ReadScan). numberIn (readAnswer answer)) (c .enum-told .given .1))
 
 returns-2 : tie.Need-returns-2
-unfolding readNumber
-returns-2 c = sym (ap readNumber (c .before .answer .given .1))
+unfolding numberIn readAnswer
+returns-2 c = sym (ap (λ (answer : ReadScan). numberIn (readAnswer answer)) (c .before .answer .given .1))
 
 pub read-number-spec : {M : Type 1} → statement M
 read-number-spec = tie.close (tie.spec enum-told enum-known-answer returns returns-2)

@@ -1,7 +1,9 @@
 -- `uldrevin::record::uldrevin_record_head` meets its contract, which is that of `scan_record::read_head`. Assumes nothing.
 use mathlib.Core.Path.{ap, _∙_}
-use Rattle.uldrevin.specs.RecordNumbers.{readNumber, headAfter}
-use Rattle.uldrevin.proofs.RecordAnswers.{number-read, head-after}
+use Rattle.placement.specs.Answer.{numberIn}
+use Rattle.placement.proofs.AnswerLaws.{number-in}
+use Rattle.uldrevin.specs.Structs.{headLeft}
+use Rattle.uldrevin.proofs.StructNumbers.{head-left}
 use borrow.Author.Needs.{needs}
 use Rattle.uldrevin.proofs.record.uldrevin_record_head.Statement.{statement}
 use Rattle.uldrevin.proofs.record.uldrevin_record_head.Tie as tie
@@ -14,8 +16,8 @@ answer-head-requires c κs = search needs
 
 returns : tie.Need-returns
 returns c = let told = c .before .before .read-head .ensures in record {
-  the-answer = c .answer-head .ensures .0 ∙ ap readNumber told ∙ number-read _ _;
-  the-head = c .answer-head .ensures .1 ∙ ap (headAfter _) told ∙ head-after _ _ _;
+  the-number = c .answer-head .ensures .0 ∙ ap numberIn told ∙ number-in _ _;
+  the-lent = c .answer-head .ensures .1 ∙ ap (headLeft _) told ∙ head-left _ _ _;
 }
 
 pub uldrevin-record-head-spec : {M : Type 1} → statement M

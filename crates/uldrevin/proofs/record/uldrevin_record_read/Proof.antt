@@ -1,10 +1,20 @@
 -- `uldrevin::record::uldrevin_record_read` meets its contract, which is that of `scan_record::read_scan`. Assumes nothing.
-use mathlib.Core.Path.{ap, _∙_}
-use Rattle.uldrevin.specs.RecordNumbers.{readNumber, headAfter}
-use Rattle.uldrevin.proofs.RecordAnswers.{number-read, head-after}
+use mathlib.Core.Path.{_≡_, refl, ap, _∙_}
+use Prim.Native.Nat.{ℕ, zero, suc}
+use Rattle.placement.specs.Answer.{numberIn, afterwards}
+use Rattle.placement.proofs.AnswerLaws.{number-in}
+use Rattle.uldrevin.specs.Structs.{headLeft}
+use Rattle.uldrevin.specs.LentNumbers.{ScanNumbers}
+use Rattle.uldrevin.proofs.StructNumbers.{head-left}
 use borrow.Author.Needs.{needs}
 use Rattle.uldrevin.proofs.record.uldrevin_record_read.Statement.{statement}
 use Rattle.uldrevin.proofs.record.uldrevin_record_read.Tie as tie
+
+-- a refusal leaves head and lists, and otherwise both are filled
+both-left : (number : ℕ) (before after : ScanNumbers) → record { head = afterwards number (before .head) (after .head); lists = afterwards number (before .lists) (after .lists) } ≡ afterwards number before after
+unfolding afterwards
+both-left zero before after = refl
+both-left (suc number) before after = refl
 
 read-scan-requires : tie.Need-read-scan-requires
 read-scan-requires c κs = search needs
@@ -23,11 +33,11 @@ same-length-3 c = search needs
 
 returns : tie.Need-returns
 returns c = let told = c .before .before .before .before .before .before .before .before .read-scan .ensures in record {
-  the-answer = c .answer-head .ensures .0 ∙ ap readNumber (told .the-answer) ∙ number-read _ _;
-  the-head = c .answer-head .ensures .1 ∙ ap (headAfter _) (told .the-answer) ∙ head-after _ _ _;
-  the-azimuths = told .the-azimuths;
-  the-values = told .the-values;
-  the-qualities = told .the-qualities;
+  the-number = c .answer-head .ensures .0 ∙ ap numberIn (told .the-answer) ∙ number-in _ _;
+  the-lent = (λ i. record {
+    head = (c .answer-head .ensures .1 ∙ ap (headLeft _) (told .the-answer) ∙ head-left _ _ _) i;
+    lists = told .the-lists i;
+  }) ∙ both-left _ _ _;
 }
 
 pub uldrevin-record-read-spec : {M : Type 1} → statement M

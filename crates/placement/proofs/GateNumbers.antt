@@ -1,0 +1,32 @@
+-- A placement tells document 01's numbers: the entry and the position of the gate, or the refusal number. Assumes nothing.
+use mathlib.Core.Bool.{Bool, true, false, cond}
+use mathlib.Core.Path.{_≡_, refl, ap, _∙_}
+use Prim.Native.Nat.{ℕ, zero, suc}
+use Rattle.placement.specs.declared.gate.Placement.{Placement}
+use Rattle.placement.specs.declared.gate.Placement.the-variants.{Inside, Outside}
+use Rattle.placement.specs.declared.grid.Grid.{Grid}
+use Rattle.placement.specs.declared.grid.Window.{Window}
+use Rattle.placement.specs.declared.position.Position.{Position}
+use Rattle.placement.specs.declared.position.Site.{Site}
+use Rattle.placement.specs.Answer.{gives, answered}
+use Rattle.placement.specs.Gate.{unlessRefused, placementOf, entryOf, placementAnswer, placedGate}
+use Rattle.placement.specs.Position.{positionOf}
+use Rattle.placement.specs.Refusal.{gateRefusal}
+use Rattle.placement.specs.Sphere.{sphereOf}
+use Rattle.placement.specs.Window.{windowOf, inWindow, located}
+
+located-told : (window : Window) (at : Position) → placementAnswer (located window at) ≡ gives (record { entry = entryOf (located window at); x = at .x; y = at .y })
+unfolding located placementAnswer entryOf
+located-told window at = go _ (inWindow window at)
+  where
+    go : (cell : ℕ) (t : Bool) → placementAnswer (cond t (Inside cell (at .x) (at .y)) (Outside (at .x) (at .y))) ≡ gives (record { entry = entryOf (cond t (Inside cell (at .x) (at .y)) (Outside (at .x) (at .y))); x = at .x; y = at .y })
+    go cell true = refl
+    go cell false = refl
+
+pub numbers-told : (site : Site) (grid : Grid) (azimuth range : ℕ) {placement : Placement} → placement ≡ placementOf site grid azimuth range → placementAnswer placement ≡ answered (gateRefusal site grid azimuth range) (placedGate site grid azimuth range)
+unfolding placementOf placedGate placementAnswer unlessRefused answered
+numbers-told site grid azimuth range e = ap placementAnswer e ∙ go (gateRefusal site grid azimuth range)
+  where
+    go : (number : ℕ) → placementAnswer (unlessRefused number (located (windowOf grid) (positionOf (sphereOf grid) site azimuth range))) ≡ answered number (placedGate site grid azimuth range)
+    go zero = located-told (windowOf grid) (positionOf (sphereOf grid) site azimuth range)
+    go (suc number) = refl

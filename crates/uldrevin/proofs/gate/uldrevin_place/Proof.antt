@@ -1,0 +1,110 @@
+-- `uldrevin::gate::uldrevin_place` meets its contract, which is that of `placement::place`. Assumes nothing.
+use mathlib.Core.Path.{_≡_, ap, _∙_}
+use Prim.Native.Nat.{ℕ}
+use lib.IntN.{pos}
+use lib.ListN.{getD}
+use mir.Facts.{toZ-ofZ}
+use Rattle.placement.specs.declared.grid.Grid.{Grid}
+use Rattle.placement.specs.declared.position.Site.{Site}
+use Rattle.placement.specs.Answer.{Answer, answered, numberIn, leftBy}
+use Rattle.placement.specs.Gate.{PlacedGate, placementAnswer, placedGate}
+use Rattle.placement.specs.Refusal.{gateRefusal}
+use Rattle.placement.specs.Unsigned.{unsigned32}
+use Rattle.placement.proofs.AnswerLaws.{number-in, left-by}
+use Rattle.uldrevin.specs.Structs.{siteAt, gridAt, gridOf}
+use Rattle.uldrevin.proofs.StructNumbers.{word-back}
+use borrow.Author.Needs.{needs}
+use Rattle.uldrevin.proofs.gate.uldrevin_place.Statement.{statement}
+use Rattle.uldrevin.proofs.gate.uldrevin_place.Tie as tie
+
+-- what came in, from where the gate is placed
+abbrev start : tie.After-place → tie.Start
+start c = c .before .before .before .before .before .before .before .before .before .before .before .before
+
+abbrev told : Site → Grid → ℕ → ℕ → Answer PlacedGate
+told site grid azimuth range = answered (gateRefusal site grid azimuth range) (placedGate site grid azimuth range)
+
+same-answer : {a b : Site} {g h : Grid} {m n k l : ℕ} → a ≡ b → g ≡ h → m ≡ n → k ≡ l → told a g m k ≡ told b h n l
+same-answer e f p q i = told (e i) (f i) (p i) (q i)
+
+-- the placement is that of the numbers in the structs
+told-numbers : (c : tie.After-place) → let s = start c in let at = siteAt (s .args .site .now) 0 in let on = gridOf (gridAt (s .args .grid .now) 0) in placementAnswer (c .place .result) ≡ told at on (unsigned32 (s .args .azimuth)) (unsigned32 (s .args .range))
+unfolding siteAt gridAt
+told-numbers c =
+    let s = start c in
+    let site : _≡_ {A = Site} _ (siteAt (s .args .site .now) 0) = λ i. record { latitude = word-back (getD (s .args .site .now) 0 (pos 0)) (c .before .before .before .before .before .t122 .given) i; longitude = word-back (getD (s .args .site .now) 1 (pos 0)) (c .before .before .before .before .t272 .given) i } in
+    let grid = c .before .before .before .grid-of .ensures ∙ ap gridOf (λ i. record {
+      kind = word-back (getD (s .args .grid .now) 0 (pos 0)) (c .before .before .before .before .before .before .before .before .before .before .before .t12 .given) i;
+      x = word-back (getD (s .args .grid .now) 1 (pos 0)) (c .before .before .before .before .before .before .before .before .before .before .t15 .given) i;
+      y = word-back (getD (s .args .grid .now) 2 (pos 0)) (c .before .before .before .before .before .before .before .before .before .t18 .given) i;
+      side = word-back (getD (s .args .grid .now) 3 (pos 0)) (c .before .before .before .before .before .before .before .before .t21 .given) i;
+      columns = word-back (getD (s .args .grid .now) 4 (pos 0)) (c .before .before .before .before .before .before .before .t24 .given) i;
+      rows = word-back (getD (s .args .grid .now) 5 (pos 0)) (c .before .before .before .before .before .before .t27 .given) i;
+    }) in
+    let azimuth = simp (toZ-ofZ, s .fits .azimuth) at (c .before .before .unsigned32 .ensures) in
+    let range = simp (toZ-ofZ, s .fits .range) at (c .before .unsigned322 .ensures) in
+    c .place .ensures .1 .0 ∙ same-answer site grid azimuth range
+
+element-copy-out-t12 : tie.Need-element-copy-out-t12
+element-copy-out-t12 c = search needs
+
+element-copy-out-t15 : tie.Need-element-copy-out-t15
+element-copy-out-t15 c = search needs
+
+element-copy-out-t18 : tie.Need-element-copy-out-t18
+element-copy-out-t18 c = search needs
+
+element-copy-out-t21 : tie.Need-element-copy-out-t21
+element-copy-out-t21 c = search needs
+
+element-copy-out-t24 : tie.Need-element-copy-out-t24
+element-copy-out-t24 c = search needs
+
+element-copy-out-t27 : tie.Need-element-copy-out-t27
+element-copy-out-t27 c = search needs
+
+element-copy-out-t12-2 : tie.Need-element-copy-out-t12-2
+element-copy-out-t12-2 c = search needs
+
+element-copy-out-t27-2 : tie.Need-element-copy-out-t27-2
+element-copy-out-t27-2 c = search needs
+
+grid-of-requires : tie.Need-grid-of-requires
+grid-of-requires c κs = search needs
+
+unsigned32-requires : tie.Need-unsigned32-requires
+unsigned32-requires c κs = search needs
+
+unsigned32-requires-2 : tie.Need-unsigned32-requires-2
+unsigned32-requires-2 c κs = search needs
+
+place-requires : tie.Need-place-requires
+place-requires c κs = search needs
+
+answer-requires : tie.Need-answer-requires
+answer-requires c κs = search needs
+
+returns : tie.Need-returns
+returns c = let told = told-numbers (c .before .before .before .before) in record {
+  the-number = c .answer .ensures .0 ∙ ap numberIn told ∙ number-in _ _;
+  the-lent = c .answer .ensures .1 ∙ ap (leftBy _) told ∙ left-by _ _ _;
+}
+
+pub uldrevin-place-spec : {M : Type 1} → statement M
+uldrevin-place-spec =
+    tie.close
+    (tie.spec
+    element-copy-out-t12
+    element-copy-out-t15
+    element-copy-out-t18
+    element-copy-out-t21
+    element-copy-out-t24
+    element-copy-out-t27
+    element-copy-out-t12-2
+    element-copy-out-t27-2
+    grid-of-requires
+    unsigned32-requires
+    unsigned32-requires-2
+    place-requires
+    answer-requires
+    returns)
