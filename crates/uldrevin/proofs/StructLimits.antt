@@ -5,9 +5,12 @@ use mathlib.Core.List.{List}
 use mathlib.Core.Path.{_≡_, refl, ap₂, _∙_}
 use Prim.Native.Nat.{ℕ}
 use native.Mathlib.Omega.{arith}
+use borrow.Author.Tests.{le-leb}
 use lib.Dec.{leb}
 use lib.IntN.{ℤ, pos, negsuc}
 use lib.ListN.{getD}
+use Rattle.placement.specs.declared.grid.Grid.{Grid}
+use Rattle.placement.specs.declared.grid.Grid.the-variants.{Radolan, Hrap}
 use Rattle.placement.specs.Refusal.{inRange, inSignedRange, rangeAccepted, azimuthAccepted, sizeAccepted, gridAccepted}
 use Rattle.placement.specs.Unsigned.{unsigned32}
 use Rattle.placement.proofs.UnsignedLaws.{same-limits}
@@ -17,7 +20,7 @@ use Rattle.uldrevin.specs.Structs.{isNumber, noGrid, gridOf, headOf}
 -- a limit from 0 on
 at-most : (most : ℕ) (z : ℤ) → inRange 0 most (unsigned32 z) ≡ inSignedRange (pos 0) (pos most) z → leb (unsigned32 z) most ≡ inSignedRange (pos 0) (pos most) z
 unfolding inRange
-at-most most z e = e
+at-most most z e = rw (le-leb 0 (unsigned32 z) (omega arith)) at e
 
 -- ---- the numbers of a scan's head
 
@@ -42,14 +45,20 @@ head-limits numbers = record {
 unfoldable pub sizeWithin : GridNumbers → Bool
 sizeWithin g = inSignedRange (pos 1) (pos 1500) (g .columns) && inSignedRange (pos 1) (pos 1500) (g .rows)
 
--- document 01's limits, on the numbers that C gave
+-- document 01's limits of each kind, on the numbers that C gave
+unfoldable pub radolanWithin : GridNumbers → Bool
+radolanWithin g =
+    inSignedRange (negsuc 1999999999) (pos 2000000000) (g .x)
+    && inSignedRange (negsuc 1999999999) (pos 2000000000) (g .y)
+    && inSignedRange (pos 10000) (pos 10000000) (g .side)
+    && sizeWithin g
+
+unfoldable pub hrapWithin : GridNumbers → Bool
+hrapWithin g = inSignedRange (negsuc 9999) (pos 10000) (g .x) && inSignedRange (negsuc 9999) (pos 10000) (g .y) && sizeWithin g
+
+-- no other kind is within them
 unfoldable pub gridWithin : GridNumbers → Bool
-gridWithin g =
-    cond (isNumber 1 (g .kind))
-    (inSignedRange (negsuc 1999999999) (pos 2000000000) (g .x) && inSignedRange (negsuc 1999999999) (pos 2000000000) (g .y) && inSignedRange (pos 10000) (pos 10000000) (g .side) && sizeWithin g)
-    (cond (isNumber 2 (g .kind))
-    (inSignedRange (negsuc 9999) (pos 10000) (g .x) && inSignedRange (negsuc 9999) (pos 10000) (g .y) && sizeWithin g)
-    false)
+gridWithin g = cond (isNumber 1 (g .kind)) (radolanWithin g) (cond (isNumber 2 (g .kind)) (hrapWithin g) false)
 
 size-same : (g : GridNumbers) → sizeAccepted (unsigned32 (g .columns)) (unsigned32 (g .rows)) ≡ sizeWithin g
 unfolding sizeAccepted sizeWithin
@@ -59,14 +68,22 @@ none-refused : gridAccepted noGrid ≡ false
 unfolding gridAccepted noGrid inSignedRange inRange
 none-refused = refl
 
+radolan-same : (g : GridNumbers) → gridAccepted (Radolan (record { x = g .x; y = g .y; side = unsigned32 (g .side); columns = unsigned32 (g .columns); rows = unsigned32 (g .rows) })) ≡ radolanWithin g
+unfolding gridAccepted radolanWithin
+radolan-same g = rw (same-limits 10000 10000000 (g .side) (omega arith), size-same g)
+
+hrap-same : (g : GridNumbers) → gridAccepted (Hrap (record { i = g .x; j = g .y; columns = unsigned32 (g .columns); rows = unsigned32 (g .rows) })) ≡ hrapWithin g
+unfolding gridAccepted hrapWithin
+hrap-same g = rw (size-same g)
+
+by-kind : (s t : Bool) (a b : Grid) {p q : Bool} → gridAccepted a ≡ p → gridAccepted b ≡ q → gridAccepted (cond s a (cond t b noGrid)) ≡ cond s p (cond t q false)
+by-kind true t a b e f = e
+by-kind false true a b e f = f
+by-kind false false a b e f = none-refused
+
 pub grid-limits : (g : GridNumbers) → gridAccepted (gridOf g) ≡ gridWithin g
 unfolding gridOf gridWithin
-grid-limits g = go (isNumber 1 (g .kind)) (isNumber 2 (g .kind))
-  where
-    go : (s t : Bool) → gridAccepted (cond s _ (cond t _ noGrid)) ≡ cond s _ (cond t _ false)
-    go true t = refl
-    go false true = refl
-    go false false = none-refused
+grid-limits g = by-kind (isNumber 1 (g .kind)) (isNumber 2 (g .kind)) _ _ (radolan-same g) (hrap-same g)
 
 -- ---- of a single gate
 
