@@ -11,7 +11,8 @@ use Rattle.placement.specs.declared.position.Site.{Site}
 use Rattle.placement.specs.Gate.{placementOf}
 use Rattle.placement.specs.Window.{windowOf}
 use Rattle.text.specs.DecimalText.{lineOf}
-use Rattle.gate_text.specs.GivenWords.{sameWord, unsigned32, wordStart, word, areWords, numberAt, areNumbers}
+use Rattle.placement.specs.Unsigned.{unsigned32}
+use Rattle.gate_text.specs.GivenWords.{sameWord, wordStart, word, areWords, numberAt, areNumbers}
 use Rattle.gate_text.specs.GateText.{hrapWord, radolanWord, usageLine, answerWords, given, siteGiven, hrapGiven, radolanGiven, answerText, gateText}
 
 module _ (words : List ℕ) (grid : Grid) {site : Site} {azimuth range columns : ℕ} {placement : Placement} where

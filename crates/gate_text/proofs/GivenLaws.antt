@@ -1,19 +1,17 @@
--- Words read byte by byte, and numbers of 32 bits. Assumes nothing.
+-- Words read byte by byte. Assumes nothing.
 use mathlib.Core.Bool.{Bool, true, false, _&&_}
 use mathlib.Core.List.{List, [], _∷_}
 use mathlib.Core.Path.{_≡_, refl, sym, ap, _∙_}
 use Prim.Native.Nat.{ℕ, suc, _+_, _-_, _<_, _≤_}
 use native.Mathlib.Numerals.{add-one}
 use native.Mathlib.Omega.{arith}
-use borrow.Author.Tests.{ltb-true, ltb-false, lt-ltb, le-ltb, eq-eqb, ne-eqb}
-use lib.Dec.{T, eqb}
-use lib.IntN.{ℤ, pos, negsuc, natAbs}
+use borrow.Author.Tests.{eq-eqb, ne-eqb}
+use lib.Dec.{eqb}
 use lib.ListN.{length, getD, take, drop, drop-of-length-le}
 use lib.Seq.{drop-cons}
-use lib.Signed.{ltZ, nonNeg}
 use Rattle.arithmetic.specs.Places.{table, allOf}
 use Rattle.arithmetic.proofs.Places.{table-length, table-at, all-step, all-stop, all-end}
-use Rattle.gate_text.specs.GivenWords.{wordLength, sameWord, unsigned32, wordStart, word}
+use Rattle.gate_text.specs.GivenWords.{wordLength, sameWord, wordStart, word}
 
 -- ---- where a word ends
 
@@ -93,22 +91,3 @@ module _ (a b : List ℕ) (k : ℕ) where
   pub same-to-the-end : length a ≤ k → length b ≤ k → sameWord (drop k a) (drop k b) ≡ true
   unfolding sameWord
   same-to-the-end h i = rw (drop-of-length-le a h, drop-of-length-le b i)
-
--- ---- a number of 32 bits
-
-pub below-zero : (z : ℤ) → ltZ z (pos 0) ≡ true → 4294967295 ≡ unsigned32 z
-unfolding unsigned32
-below-zero (pos n) e = absurd (omega (arith, ltb-true n 0 e))
-below-zero (negsuc n) e = refl
-
-pub beyond-32-bits : (z : ℤ) → ltZ (pos 4294967295) z ≡ true → 4294967295 ≡ unsigned32 z
-unfolding unsigned32
-beyond-32-bits (pos n) e = rw (le-ltb n 4294967296 (omega (arith, ltb-true 4294967295 n e)))
-beyond-32-bits (negsuc n) e = refl
-
-pub within-32-bits : (z : ℤ) → ltZ z (pos 0) ≡ false → ltZ (pos 4294967295) z ≡ false → T (nonNeg z) × (natAbs z < 4294967296) × (natAbs z ≡ unsigned32 z)
-unfolding unsigned32
-within-32-bits (pos n) e f =
-    let h : n < 4294967296 = omega (arith, ltb-false 4294967295 n f) in
-    (tt, h, rw (lt-ltb n 4294967296 h))
-within-32-bits (negsuc n) e f = let z : _≡_ {A = ℕ} 0 1 = cc in absurd (omega arith)

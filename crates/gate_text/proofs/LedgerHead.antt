@@ -12,10 +12,9 @@ use Rattle.placement.specs.Window.{windowOf}
 use Rattle.placement.proofs.Accepted.{range-bounds}
 use Rattle.remap.specs.declared.scan.ScanHead.{ScanHead}
 use Rattle.remap.proofs.AcceptedRemap.{centres-most}
-use Rattle.remap.proofs.AcceptedScan.{accepted-numbers}
 use Rattle.scan_record.specs.RecordPlaces.{headIn, azimuthsIn, valuesIn, qualitiesIn}
 use Rattle.scan_record.specs.RecordRefusal.{headRefusal}
-use Rattle.scan_record.proofs.AcceptedRecord.{accepted-record}
+use Rattle.scan_record.proofs.AcceptedRecord.{record-numbers}
 use Rattle.text.specs.DecimalText.{decimalOf, lineOf, spaced}
 use Rattle.text.proofs.StoredLaws.{spaced-line}
 use Rattle.gate_text.specs.LedgerLine.{placementWords, rayOf, gateOf, azimuthOf, rangeOf, gateWords, ledgerLine}
@@ -28,7 +27,7 @@ pub record GoodHead (head : ScanHead) : Type 0 where
 head-good : (bytes : List ℕ) → headRefusal bytes ≡ 0 → GoodHead (headIn bytes)
 unfolding headRefusal
 head-good bytes e =
-    let numbers = accepted-numbers (headIn bytes) true _ _ (accepted-record bytes true e .number) in
+    let numbers = record-numbers bytes true e in
     let gates = range-bounds 1 1000 (headIn bytes .gates) (numbers .gates-accepted) in
     record {
       gates-least = gates .0;

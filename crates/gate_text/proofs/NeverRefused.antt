@@ -18,10 +18,9 @@ use Rattle.placement.specs.Sphere.{sphereOf}
 use Rattle.placement.specs.Window.{windowOf, inWindow, located}
 use Rattle.placement.proofs.Accepted.{range-bounds}
 use Rattle.remap.proofs.AcceptedRemap.{gate-accepted}
-use Rattle.remap.proofs.AcceptedScan.{accepted-numbers}
 use Rattle.scan_record.specs.RecordPlaces.{headIn, azimuthsIn}
 use Rattle.scan_record.specs.RecordRefusal.{headRefusal}
-use Rattle.scan_record.proofs.AcceptedRecord.{accepted-record}
+use Rattle.scan_record.proofs.AcceptedRecord.{record-numbers}
 use Rattle.gate_text.specs.LedgerLine.{rayOf, gateOf, azimuthOf, rangeOf}
 
 -- a place in a grid or outside it is no refusal
@@ -46,7 +45,7 @@ module _ (bytes : List ℕ) (good : headRefusal bytes ≡ 0) (k : ℕ) where
   none-refused : gateRefusal (headIn bytes .site) (headIn bytes .grid) (azimuthOf bytes k) (rangeOf bytes k) ≡ 0
   unfolding headRefusal rayOf gateOf azimuthOf rangeOf
   none-refused =
-      let numbers = accepted-numbers (headIn bytes) true _ _ (accepted-record bytes true good .number) in
+      let numbers = record-numbers bytes true good in
       gate-accepted (headIn bytes) _ (gateOf bytes k) (numbers .centres-accepted) (numbers .site-accepted) (numbers .grid-accepted)
       (all-at azimuthAccepted (azimuthsIn bytes) azimuth-zero (numbers .azimuths-accepted) (rayOf bytes k))
       (mod-lt k (range-bounds 1 1000 (headIn bytes .gates) (numbers .gates-accepted) .0))

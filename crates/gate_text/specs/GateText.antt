@@ -12,7 +12,8 @@ use Rattle.placement.specs.Gate.{placementOf}
 use Rattle.placement.specs.Window.{windowOf}
 use Rattle.text.specs.DecimalText.{decimalOf, signedDecimalOf, lineOf}
 use Rattle.text.specs.RefusedLine.{refusedWord}
-use Rattle.gate_text.specs.GivenWords.{sameWord, unsigned32, word, areWords, numberAt, areNumbers}
+use Rattle.placement.specs.Unsigned.{unsigned32}
+use Rattle.gate_text.specs.GivenWords.{sameWord, word, areWords, numberAt, areNumbers}
 use Rattle.gate_text.specs.LedgerLine.{outsideWord}
 
 -- the words `inside`, `hrap` and `radolan`

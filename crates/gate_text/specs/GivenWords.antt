@@ -2,8 +2,8 @@
 use mathlib.Core.Bool.{Bool, true, false, _&&_, cond}
 use mathlib.Core.List.{List, [], _∷_}
 use Prim.Native.Nat.{ℕ, zero, suc, _+_}
-use lib.Dec.{eqb, ltb}
-use lib.IntN.{ℤ, pos, negsuc}
+use lib.Dec.{eqb}
+use lib.IntN.{ℤ, pos}
 use lib.ListN.{length, take, drop}
 use Rattle.arithmetic.specs.Places.{table, allOf}
 use Rattle.text.specs.declared.word.Parsed.{Parsed}
@@ -31,11 +31,6 @@ isNumber Wrong = false
 unfoldable pub numberOf : Parsed → ℤ
 numberOf (Number z) = z
 numberOf Wrong = pos 0
-
--- 4,294,967,295 stands for a number that does not fit 32 bits: it is beyond every limit
-unfoldable pub unsigned32 : ℤ → ℕ
-unsigned32 (pos n) = cond (ltb n 4294967296) n 4294967295
-unsigned32 (negsuc n) = 4294967295
 
 -- ---- word by word, counted from 0
 

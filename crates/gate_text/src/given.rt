@@ -9,7 +9,8 @@ use placement::Site;
 use text::Parsed;
 ghost use mathlib.Core.Path.{_≡_};
 ghost use Prim.Native.Nat.{_≤_, _+_};
-ghost use Rattle.gate_text.specs.GivenWords.{unsigned32, isNumberAt, numberAt, areNumbers};
+ghost use Rattle.placement.specs.Unsigned.{unsigned32};
+ghost use Rattle.gate_text.specs.GivenWords.{isNumberAt, numberAt, areNumbers};
 ghost use Rattle.gate_text.specs.GateText.{given, siteGiven, hrapGiven, radolanGiven};
 
 fn is_number(words: &[u8], n: usize) -> bool
@@ -49,24 +50,11 @@ fn are_numbers(words: &[u8], from: usize, count: usize) -> bool
     true
 }
 
-// 4,294,967,295 stands for a number that does not fit 32 bits: it is beyond every limit, so that the placement refuses it.
-fn unsigned(z: i64) -> u32
-    ensures { λ r. ⌜ r ≡ unsigned32 z ⌝ }
-{
-    if z < 0 {
-        return 4294967295;
-    }
-    if 4294967295 < z {
-        return 4294967295;
-    }
-    z as u32
-}
-
 pub fn unsigned_at(words: &[u8], n: usize) -> u32
     requires { ⌜ n ≤ 10 ⌝ }
     ensures { λ r. ⌜ r ≡ unsigned32 (numberAt (now (words .entry)) n) ⌝ }
 {
-    unsigned(number_at(words, n))
+    placement::unsigned32(number_at(words, n))
 }
 
 // So many words, the fifth of them the kind, all others numbers.

@@ -1,5 +1,5 @@
 -- What is accepted of a scan, as bounds of its numbers; and a scan that is not refused is accepted. Assumes nothing.
-use mathlib.Core.Path.{_≡_, refl}
+use mathlib.Core.Path.{_≡_, refl, sym, _∙_}
 use mathlib.Core.Bool.{Bool, true, false, _&&_, cond}
 use Prim.Native.Nat.{ℕ, suc, _≤_}
 use native.Mathlib.Omega.{arith}
@@ -110,6 +110,12 @@ pub by-last-length : (head : ScanHead) (given : Lengths) → listsAccepted head 
 unfolding lengthsAccepted
 by-last-length head given lists ledger counts quality-sums value-sums means =
     simp (lists, eq-eqb _ _ ledger, eq-eqb _ _ counts, eq-eqb _ _ quality-sums, eq-eqb _ _ value-sums, eq-eqb _ _ means)
+
+pub lengths-exact : (head : ScanHead) (given : Lengths) → AcceptedLengths head given → lengthsAccepted head given ≡ true
+lengths-exact head given known =
+    let lists = sym (by-last-list head (given .azimuths) (given .values) (given .qualities) (known .azimuths-length) (known .values-length)) ∙ eq-eqb _ _ (known .qualities-length) in
+    sym (by-last-length head given lists (known .ledger-length) (known .counts-length) (known .quality-sums-length) (known .value-sums-length) (known .means-length))
+    ∙ eq-eqb _ _ (known .cell-qualities-length)
 
 -- ---- the whole scan
 

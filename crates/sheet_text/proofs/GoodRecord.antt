@@ -13,28 +13,29 @@ use Rattle.placement.specs.Window.{windowOf}
 use Rattle.placement.proofs.Accepted.{range-bounds}
 use Rattle.remap.specs.declared.scan.ScanHead.{ScanHead}
 use Rattle.remap.specs.Scan.{gatesOf, cellsOf, Scan}
-use Rattle.remap.specs.ScanRefusal.{listsAccepted, lengthsAccepted, qualityAccepted, scanRefusal, lengthsOf, refusalFor}
+use Rattle.remap.specs.ScanRefusal.{listsAccepted, qualityAccepted, lengthsOf, listsExact, refusalFor}
 use Rattle.remap.specs.LentLists.{Lists}
 use Rattle.remap.specs.Remap.{filledLists, Remaps}
-use Rattle.placement.specs.Answer.{afterwards}
+use Rattle.placement.proofs.AnswerLaws.{filled-is}
 use Rattle.remap.specs.declared.scan.Remapped.{Remapped}
 use Rattle.remap.specs.Tally.{talliedSums}
-use Rattle.remap.proofs.AcceptedScan.{AcceptedNumbers, accepted-numbers, window-size}
+use Rattle.remap.proofs.AcceptedScan.{AcceptedLengths, accepted-lengths, lengths-exact, AcceptedNumbers, window-size}
 use Rattle.scan_record.specs.declared.reader.ReadScan.{ReadScan}
 use Rattle.scan_record.specs.BigEndian.{numbersAt}
-use Rattle.scan_record.specs.RecordPlaces.{raysIn, gatesIn, headIn, azimuthsIn, valuesIn, qualitiesIn}
+use Rattle.scan_record.specs.RecordPlaces.{raysIn, gatesIn, headIn, azimuthsIn, valuesIn, qualitiesIn, scanIn}
+use Rattle.scan_record.specs.RecordLists.{RecordLists}
 use Rattle.scan_record.specs.RecordRefusal.{headRefusal, recordRefusal, readRefusal}
-use Rattle.scan_record.specs.RecordAnswer.{Reading}
-use Rattle.scan_record.proofs.AcceptedRecord.{accepted-record}
-use Rattle.sheet_text.specs.SheetText.{scanIn, placedOf, sheetLines, goodSheet}
-use Rattle.sheet_text.specs.SheetRoom.{Sized, Fitting}
+use Rattle.scan_record.specs.RecordAnswer.{listsIn, Reads}
+use Rattle.scan_record.proofs.AcceptedRecord.{accepted-record, record-numbers}
+use Rattle.sheet_text.specs.SheetText.{placedOf, sheetLines, goodSheet}
+use Rattle.sheet_text.specs.SheetRoom.{Sized}
 use Rattle.sheet_text.proofs.PlacedTotal.{placed-total}
 
 -- ---- its numbers
 
 numbers : {bytes : List ℕ} {head : ScanHead} → Sized bytes head → AcceptedNumbers (headIn bytes) true (allOf azimuthAccepted (azimuthsIn bytes)) (allOf qualityAccepted (qualitiesIn bytes))
 unfolding headRefusal
-numbers {bytes} {head} s = accepted-numbers _ _ _ _ (accepted-record bytes true (s .accepted) .number)
+numbers {bytes} {head} s = record-numbers bytes true (s .accepted)
 
 pub rays-most : {bytes : List ℕ} {head : ScanHead} → Sized bytes head → head .rays ≤ 720
 rays-most {bytes} {head} s = rw (s .is-head) (range-bounds 1 720 (headIn bytes .rays) (numbers s .rays-accepted) .1)
@@ -63,44 +64,48 @@ lists-exact : (head : ScanHead) (a v q : ℕ) → a ≡ head .rays → v ≡ gat
 unfolding listsAccepted
 lists-exact head a v q d e f = rw (eq-eqb a (head .rays) d, eq-eqb v (gatesOf head) e, eq-eqb q (gatesOf head) f)
 
-now-filled : {A : Type 0} {number : ℕ} {after full : A} (before : A) → number ≡ 0 → after ≡ afterwards number before full → after ≡ full
-unfolding afterwards
-now-filled before z e = e ∙ rw z
+module _ {bytes : List ℕ} (scan : Scan) (lists : Lists) (s : Sized bytes (scan .head)) (exact : listsExact scan lists ≡ true) where
+  lengths : AcceptedLengths (scan .head) (lengthsOf scan lists)
+  unfolding listsExact
+  lengths = accepted-lengths (scan .head) (lengthsOf scan lists) exact
 
-module _ {bytes : List ℕ} {scan : Scan} {lists : Lists} (s : Sized bytes (scan .head)) (f : Fitting scan lists) where
-  no-refusal : readRefusal bytes (scan .azimuths) (scan .values) (scan .qualities) ≡ 0
+  -- the lists that the reader fills
+  abbrev to-fill : RecordLists
+  to-fill = record { azimuths = scan .azimuths; values = scan .values; qualities = scan .qualities }
+
+  no-refusal : readRefusal bytes to-fill ≡ 0
   unfolding readRefusal headRefusal
   no-refusal =
       ap (recordRefusal bytes)
-      (lists-exact (headIn bytes) _ _ _ (f .azimuths-length ∙ ap (λ (h : ScanHead). h .rays) (s .is-head)) (f .values-length ∙ ap gatesOf (s .is-head)) (f .qualities-length ∙ ap gatesOf (s .is-head)))
+      (lists-exact (headIn bytes) _ _ _ (lengths .azimuths-length ∙ ap (λ (h : ScanHead). h .rays) (s .is-head)) (lengths .values-length ∙ ap gatesOf (s .is-head)) (lengths .qualities-length ∙ ap gatesOf (s .is-head)))
       ∙ s .accepted
 
-  pub scan-read : {answer : ReadScan} {azimuths values qualities : List ℕ} → Reading bytes (scan .azimuths) (scan .values) (scan .qualities) answer azimuths values qualities → record { head = scan .head; azimuths = azimuths; values = values; qualities = qualities } ≡ scanIn bytes
-  unfolding scanIn
-  scan-read r i = record {
-    head = s .is-head i;
-    azimuths = now-filled _ no-refusal (r .the-azimuths) i;
-    values = now-filled _ no-refusal (r .the-values) i;
-    qualities = now-filled _ no-refusal (r .the-qualities) i;
-  }
+  pub scan-read : {answer : ReadScan} {after : RecordLists} → Reads bytes (record { entry = to-fill; exit = after }) answer → record { head = scan .head; azimuths = after .azimuths; values = after .values; qualities = after .qualities } ≡ scanIn bytes
+  unfolding scanIn listsIn
+  scan-read r =
+      let read = filled-is to-fill no-refusal (r .the-lists) in
+      λ i. record { head = s .is-head i; azimuths = read i .azimuths; values = read i .values; qualities = read i .qualities }
 
   not-refused : refusalFor (scanIn bytes) lists ≡ 0
-  unfolding scanIn refusalFor lengthsOf scanRefusal lengthsAccepted headRefusal
+  unfolding scanIn refusalFor listsExact headRefusal
   not-refused =
+      let gates = ap gatesOf (s .is-head) in
       let cells = ap cellsOf (s .is-head) in
-      rw (
-        lists-exact (headIn bytes) (length (azimuthsIn bytes)) (length (valuesIn bytes)) (length (qualitiesIn bytes)) (azimuths-length bytes) (values-length bytes) (qualities-length bytes),
-        eq-eqb _ _ (f .ledger-length ∙ ap gatesOf (s .is-head)),
-        eq-eqb _ _ (f .counts-length ∙ cells),
-        eq-eqb _ _ (f .quality-sums-length ∙ cells),
-        eq-eqb _ _ (f .value-sums-length ∙ cells),
-        eq-eqb _ _ (f .means-length ∙ cells),
-        eq-eqb _ _ (f .cell-qualities-length ∙ cells),
-      )
-      (accepted-record bytes true (s .accepted) .number)
+      let known : AcceptedLengths (headIn bytes) (lengthsOf (scanIn bytes) lists) = record {
+        azimuths-length = azimuths-length bytes;
+        values-length = values-length bytes;
+        qualities-length = qualities-length bytes;
+        ledger-length = lengths .ledger-length ∙ gates;
+        counts-length = lengths .counts-length ∙ cells;
+        quality-sums-length = lengths .quality-sums-length ∙ cells;
+        value-sums-length = lengths .value-sums-length ∙ cells;
+        means-length = lengths .means-length ∙ cells;
+        cell-qualities-length = lengths .cell-qualities-length ∙ cells;
+      } in
+      rw (lengths-exact (headIn bytes) _ known) (accepted-record bytes true (s .accepted) .number)
 
   pub remapped : {given : Scan} {after : Lists} {answer : Remapped} → given ≡ scanIn bytes → Remaps given (record { entry = lists; exit = after }) answer → after ≡ filledLists (scanIn bytes)
-  remapped e r = now-filled lists not-refused (rw e at (r .the-lists))
+  remapped e r = filled-is lists not-refused (rw e at (r .the-lists))
 
 -- each list has the grid's cells
 module _ (bytes : List ℕ) {lists : Lists} (e : lists ≡ filledLists (scanIn bytes)) where

@@ -93,7 +93,7 @@ counted-placed entry cells value t =
 pub placed-total : (scan : Scan) → cellsOf (scan .head) ≤ 4294967295 → let lists = filledLists scan in sumTo (λ k. getD (lists .sums .counts) k 0) (length (lists .sums .counts)) ≡ placedOf (lists .ledger) (scan .values)
 unfolding filledLists talliedSums placedOf
 placed-total scan h =
-    let rays = raysOf (scan .head) (scan .azimuths) in
+    let rays = raysOf scan in
     let ledger = ledgerOf (scan .head) rays in
     table-sum (countOf ledger (scan .values) (scan .qualities)) (cellsOf (scan .head))
     ∙ count-total ledger (scan .values) (scan .qualities) (cellsOf (scan .head))

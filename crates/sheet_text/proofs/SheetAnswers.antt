@@ -6,12 +6,12 @@ use native.Mathlib.Nat.{zero-add}
 use native.Mathlib.Omega.{arith}
 use borrow.Author.Tests.{le-leb, lt-leb}
 use lib.ListN.{length, drop}
+use Rattle.placement.specs.Answer.{refuses, answered}
+use Rattle.placement.proofs.AnswerLaws.{refused-is}
 use Rattle.remap.specs.declared.scan.ScanHead.{ScanHead}
 use Rattle.remap.specs.Scan.{gatesOf, cellsOf}
-use Rattle.scan_record.specs.declared.reader.ReadScan.the-variants.{Head, Refused}
 use Rattle.scan_record.specs.RecordPlaces.{headIn}
 use Rattle.scan_record.specs.RecordRefusal.{headRefusal}
-use Rattle.scan_record.specs.RecordAnswer.{readAnswer}
 use Rattle.arithmetic.proofs.SetsLaws.{sets-start}
 use Rattle.text.specs.RefusedLine.{refusedLine}
 use Rattle.text.specs.StoredText.{Stored}
@@ -38,22 +38,16 @@ pub bytes-too-many : (bytes : List ℕ) → 16384 < length bytes → tooLarge �
 unfolding sheetText
 bytes-too-many bytes h = rw (lt-leb (length bytes) 16384 h)
 
-refused-number : (number n : ℕ) (head : ScanHead) (sheet : List ℕ) → Refused n ≡ readAnswer number head → refusedLine n ≡ refusedOr number sheet
-unfolding readAnswer refusedOr
-refused-number zero n head sheet e = cc
-refused-number (suc number) n head sheet e = ap refusedLine cc
+refused-text : (number n : ℕ) (sheet : List ℕ) → n ≡ number → (number ≡ 0 → ⊥) → refusedLine n ≡ refusedOr number sheet
+unfolding refusedOr
+refused-text zero n sheet e wrong = absurd (wrong refl)
+refused-text (suc number) n sheet e wrong = ap refusedLine e
 
-good-number : (number : ℕ) (h head : ScanHead) → Head h ≡ readAnswer number head → (number ≡ 0) × (h ≡ head)
-unfolding readAnswer
-good-number zero h head e = (refl, cc)
-good-number (suc number) h head e = (cc, cc)
-
-pub is-refused : (bytes : List ℕ) (n : ℕ) → length bytes ≤ 16384 → Refused n ≡ readAnswer (headRefusal bytes) (headIn bytes) → refusedLine n ≡ sheetText bytes
+pub is-refused : (bytes : List ℕ) (n : ℕ) → length bytes ≤ 16384 → refuses n ≡ answered (headRefusal bytes) (headIn bytes) → refusedLine n ≡ sheetText bytes
 unfolding sheetText
-is-refused bytes n h e = rw (le-leb (length bytes) 16384 h) (refused-number (headRefusal bytes) n (headIn bytes) (sizedSheet bytes) e)
-
-pub is-good : (bytes : List ℕ) (head : ScanHead) → Head head ≡ readAnswer (headRefusal bytes) (headIn bytes) → (headRefusal bytes ≡ 0) × (head ≡ headIn bytes)
-is-good bytes head e = good-number (headRefusal bytes) head (headIn bytes) e
+is-refused bytes n h e =
+    let told = refused-is (headRefusal bytes) (headIn bytes) e in
+    rw (le-leb (length bytes) 16384 h) (refused-text (headRefusal bytes) n (sizedSheet bytes) (told .0) (told .1))
 
 pub is-sized : (bytes : List ℕ) → length bytes ≤ 16384 → headRefusal bytes ≡ 0 → sizedSheet bytes ≡ sheetText bytes
 unfolding sheetText refusedOr

@@ -7,9 +7,9 @@ use lib.ListN.{length, getD}
 use Rattle.arithmetic.specs.Places.{sumTo}
 use Rattle.placement.specs.Window.{windowOf}
 use Rattle.remap.specs.Gates.{isMeasured}
-use Rattle.remap.specs.Scan.{gatesOf, cellsOf, Scan}
+use Rattle.remap.specs.Scan.{gatesOf, cellsOf}
 use Rattle.remap.specs.Remap.{filledLists}
-use Rattle.scan_record.specs.RecordPlaces.{headIn, azimuthsIn, valuesIn, qualitiesIn}
+use Rattle.scan_record.specs.RecordPlaces.{headIn, valuesIn, scanIn}
 use Rattle.scan_record.specs.RecordRefusal.{headRefusal}
 use Rattle.text.specs.DecimalText.{decimalOf, lineOf}
 use Rattle.text.specs.RefusedLine.{refusedLine}
@@ -69,10 +69,6 @@ placedOf ledger values = sumTo (λ k. cond (isPlaced (getD ledger k 0) (getD val
 unfoldable pub refusedOr : ℕ → List ℕ → List ℕ
 refusedOr zero sheet = sheet
 refusedOr (suc number) sheet = refusedLine (suc number)
-
--- the scan of a record
-unfoldable pub scanIn : List ℕ → Scan
-scanIn bytes = record { head = headIn bytes; azimuths = azimuthsIn bytes; values = valuesIn bytes; qualities = qualitiesIn bytes }
 
 module _ (bytes : List ℕ) where
   unfoldable pub goodSheet : List ℕ

@@ -1,13 +1,16 @@
 // The sheet of a good record within the two sizes.
 use crate::lines::put_sheet;
 use remap::ScanHead;
+ghost use mathlib.Core.Bool.{true};
+ghost use mathlib.Core.Path.{_≡_};
 ghost use Prim.Native.Nat.{_≤_};
 ghost use lib.ListN.{length};
 ghost use Rattle.remap.specs.LentLists.{listsHeld};
 ghost use Rattle.remap.specs.Scan.{scanHeld};
+ghost use Rattle.remap.specs.ScanRefusal.{listsExact};
 ghost use Rattle.text.specs.StoredText.{Stored};
 ghost use Rattle.sheet_text.specs.SheetText.{goodSheet};
-ghost use Rattle.sheet_text.specs.SheetRoom.{Sized, Fitting};
+ghost use Rattle.sheet_text.specs.SheetRoom.{Sized};
 
 // With lists of exact lengths: read, remap, print.
 fn cells_text(
@@ -24,7 +27,7 @@ fn cells_text(
     cell_qualities: &mut [u8],
     page: &mut [u8],
 ) -> usize
-    requires { ⌜ Sized (now bytes) head × Fitting (scanOf head azimuths values qualities) (listsOf ledger counts «quality_sums» «value_sums» means «cell_qualities») × (120000 ≤ length (now page)) ⌝ }
+    requires { ⌜ Sized (now bytes) head × (listsExact (scanHeld head azimuths values qualities) (listsHeld ledger counts «quality_sums» «value_sums» means «cell_qualities») ≡ true) × (120000 ≤ length (now page)) ⌝ }
     ensures { λ r. ⌜ r ≤ 120000 ⌝ }
     ensures { λ r. ⌜ Stored (now (page .entry)) 0 (goodSheet (now (bytes .entry))) r (now (page .exit)) ⌝ }
 {

@@ -1,7 +1,9 @@
 -- `sheet_text::page::sheet` meets its contract. Assumes nothing.
-use mathlib.Core.Path.{sym, _∙_}
+use mathlib.Core.Path.{sym, ap, _∙_}
 use native.Mathlib.Omega.{arith}
-use Rattle.sheet_text.proofs.SheetAnswers.{bytes-too-many, is-refused, is-good, is-sized, printed}
+use Rattle.placement.proofs.AnswerLaws.{given-is}
+use Rattle.scan_record.specs.RecordAnswer.{readAnswer}
+use Rattle.sheet_text.proofs.SheetAnswers.{bytes-too-many, is-refused, is-sized, printed}
 use borrow.Author.Needs.{needs}
 use Rattle.sheet_text.proofs.page.sheet.Statement.{statement}
 use Rattle.sheet_text.proofs.page.sheet.Tie as tie
@@ -31,26 +33,29 @@ enum-known-head : tie.Need-enum-known-head
 enum-known-head c = search needs
 
 sized-sheet-requires : tie.Need-sized-sheet-requires
+unfolding readAnswer
 sized-sheet-requires c κs =
-    let good = is-good _ _ (sym (c .before .before .head .given .1) ∙ c .before .before .before .before .read-head .ensures) in
+    let good = given-is _ (sym (ap readAnswer (c .before .before .head .given .1)) ∙ c .before .before .before .before .read-head .ensures) in
     (good .0, good .1, c .before .before .before .before .before .before .before .before .pre)
 
 same-length-2 : tie.Need-same-length-2
 same-length-2 c = search needs
 
 returns-2 : tie.Need-returns-2
+unfolding readAnswer
 returns-2 c =
     let put = c .before .before .put-refused .ensures in
-    let text = printed (omega (arith, put .1)) (c .before .before .before .before .before .before .before .before .before .before .before .pre) (is-refused _ _ (c .before .before .before .before .before .before .before .before .if1 .left) (sym (c .before .before .before .before .before .number .given .1) ∙ c .before .before .before .before .before .before .before .read-head .ensures)) (put .0) in
+    let text = printed (omega (arith, put .1)) (c .before .before .before .before .before .before .before .before .before .before .before .pre) (is-refused _ _ (c .before .before .before .before .before .before .before .before .if1 .left) (sym (ap readAnswer (c .before .before .before .before .before .number .given .1)) ∙ c .before .before .before .before .before .before .before .read-head .ensures)) (put .0) in
     (text .the-length, (omega (arith, put .1), text .the-page))
 
 same-length-3 : tie.Need-same-length-3
 same-length-3 c = search needs
 
 returns-3 : tie.Need-returns-3
+unfolding readAnswer
 returns-3 c =
     let put = c .before .before .sized-sheet .ensures in
-    let good = is-good _ _ (sym (c .before .before .before .before .before .head .given .1) ∙ c .before .before .before .before .before .before .before .read-head .ensures) in
+    let good = given-is _ (sym (ap readAnswer (c .before .before .before .before .before .head .given .1)) ∙ c .before .before .before .before .before .before .before .read-head .ensures) in
     let text = printed (put .0) (c .before .before .before .before .before .before .before .before .before .before .before .pre) (is-sized _ (c .before .before .before .before .before .before .before .before .if1 .left) (good .0)) (put .1) in
     (text .the-length, (put .0, text .the-page))
 

@@ -1,9 +1,9 @@
 -- `sheet_text::record_sheet::cells_text` meets its contract: read, remapped, printed. Assumes nothing.
 use mathlib.Core.Path.{_≡_, sym, ap, _∙_}
-use Rattle.remap.specs.LentLists.{Lists}
+use Rattle.remap.specs.LentLists.{Lists, listsHeld}
 use Rattle.remap.specs.Remap.{filledLists}
-use Rattle.remap.specs.Scan.{cellsOf}
-use Rattle.sheet_text.specs.SheetText.{scanIn}
+use Rattle.remap.specs.Scan.{Scan, scanHeld, cellsOf}
+use Rattle.scan_record.specs.RecordPlaces.{scanIn}
 use native.Mathlib.Omega.{arith}
 use Rattle.sheet_text.proofs.GoodRecord.{grid-good, columns-least, scan-read, remapped, counts-length, means-length, cell-qualities-length, is-sheet}
 use Rattle.text.proofs.StoredLaws.{stored-same}
@@ -21,10 +21,16 @@ at-read c = c .before .before .before .before .before .before .before .before .b
 abbrev given-remap : tie.After-remap → tie.Start
 given-remap c = given (at-read c)
 
+abbrev came-in : tie.Start → Scan
+came-in s = scanHeld (s .args .head) (s .args .azimuths) (s .args .values) (s .args .qualities)
+
+abbrev lent : tie.Start → Lists
+lent s = listsHeld (s .args .ledger) (s .args .counts) (s .args .quality-sums) (s .args .value-sums) (s .args .means) (s .args .cell-qualities)
+
 -- ---- what each step leaves
 
 read-done : (c : tie.After-read-scan) → record { head = given c .args .head; azimuths = c .read-scan .last .1 .0; values = c .read-scan .last .1 .1 .0; qualities = c .read-scan .last .1 .1 .1 .0 } ≡ scanIn (given c .args .bytes .now)
-read-done c = scan-read (given c .pre .0) (given c .pre .1) (c .read-scan .ensures)
+read-done c = scan-read (came-in (given c)) (lent (given c)) (given c .pre .0) (given c .pre .1) (c .read-scan .ensures)
 
 -- the lists as `remap` leaves them
 abbrev left : tie.After-remap → Lists
@@ -35,7 +41,7 @@ left c = let last = c .remap .last .1 .1 .1 .1 in record {
 }
 
 cells-done : (c : tie.After-remap) → left c ≡ filledLists (scanIn (given-remap c .args .bytes .now))
-cells-done c = remapped (given-remap c .pre .0) (given-remap c .pre .1) (read-done (at-read c)) (c .remap .ensures)
+cells-done c = let s = given-remap c in remapped (came-in s) (lent s) (s .pre .0) (s .pre .1) (read-done (at-read c)) (c .remap .ensures)
 
 read-scan-requires : tie.Need-read-scan-requires
 read-scan-requires c κs = search needs

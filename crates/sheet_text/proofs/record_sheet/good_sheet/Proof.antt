@@ -2,6 +2,8 @@
 use mathlib.Core.Path.{sym, _∙_}
 use native.Mathlib.Omega.{arith}
 use lib.Seq.{length-take-le}
+use Rattle.remap.specs.ScanRefusal.{listsExact}
+use Rattle.remap.proofs.AcceptedScan.{lengths-exact}
 use Rattle.sheet_text.proofs.GoodRecord.{rays-most}
 use borrow.Author.Needs.{needs}
 use Rattle.sheet_text.proofs.record_sheet.good_sheet.Statement.{statement}
@@ -71,12 +73,13 @@ slice-aggregate-cells-text-9 : tie.Need-slice-aggregate-cells-text-9
 slice-aggregate-cells-text-9 c = sym (length-take-le _ _ (array-borrow-prefix-cell-qualities (c .before)))
 
 cells-text-requires : tie.Need-cells-text-requires
+unfolding listsExact
 cells-text-requires c κs =
     let gates = c .before .before .before .before .before .before .before .before .before .before .before .gates-of .ensures in
     let cells = c .before .before .before .before .before .before .before .before .before .before .cells-of .ensures in
     let start = c .before .before .before .before .before .before .before .before .before .before .before .before .before .before .before in (
       start .pre .0,
-      record {
+      lengths-exact _ _ (record {
         azimuths-length = sym (slice-aggregate-cells-text (c .before .before .before .before .before .before .before .before .before));
         values-length = sym (slice-aggregate-cells-text-2 (c .before .before .before .before .before .before .before .before)) ∙ gates;
         qualities-length = sym (slice-aggregate-cells-text-3 (c .before .before .before .before .before .before .before)) ∙ gates;
@@ -86,7 +89,7 @@ cells-text-requires c κs =
         value-sums-length = sym (slice-aggregate-cells-text-7 (c .before .before .before)) ∙ cells;
         means-length = sym (slice-aggregate-cells-text-8 (c .before .before)) ∙ cells;
         cell-qualities-length = sym (slice-aggregate-cells-text-9 (c .before)) ∙ cells;
-      },
+      }),
       start .pre .1,
     )
 
