@@ -9,7 +9,7 @@
 #define MOST_BYTES 200000
 
 struct scan {
-    int64_t head[ULDREVIN_HEAD_NUMBERS];
+    struct uldrevin_scan head;
     uint32_t *azimuths;
     uint16_t *values;
     uint8_t *qualities;
@@ -34,53 +34,38 @@ static void *list(size_t numbers, size_t size)
 
 static size_t gates_of(const struct scan *scan)
 {
-    return (size_t)(scan->head[ULDREVIN_HEAD_RAYS] * scan->head[ULDREVIN_HEAD_GATES]);
+    return (size_t)(scan->head.rays * scan->head.gates);
 }
 
 static size_t cells_of(const struct scan *scan)
 {
-    return (size_t)(scan->head[ULDREVIN_HEAD_COLUMNS] * scan->head[ULDREVIN_HEAD_ROWS]);
+    return (size_t)(scan->head.grid.columns * scan->head.grid.rows);
 }
 
 static uint32_t read_scan(const uint8_t *record, size_t length, struct scan *scan)
 {
-    uint32_t refusal = uldrevin_record_head(record, length, scan->head);
+    uint32_t refusal = uldrevin_record_head(record, length, &scan->head);
     if (refusal != 0)
         return refusal;
-    size_t rays = (size_t)scan->head[ULDREVIN_HEAD_RAYS], gates = gates_of(scan);
+    size_t rays = (size_t)scan->head.rays, gates = gates_of(scan);
     scan->azimuths = list(rays, sizeof *scan->azimuths);
     scan->values = list(gates, sizeof *scan->values);
     scan->qualities = list(gates, sizeof *scan->qualities);
-    return uldrevin_record_read(record, length, scan->head, scan->azimuths, rays, scan->values, gates, scan->qualities, gates);
+    return uldrevin_record_read(record, length, &scan->head, scan->azimuths, rays, scan->values, gates, scan->qualities, gates);
 }
 
-/* Every number of a head that was read is in its bounds, so that it fits the parameter's type. */
 static uint32_t remap(const struct scan *scan, struct grid *grid)
 {
-    const int64_t *h = scan->head;
-    size_t rays = (size_t)h[ULDREVIN_HEAD_RAYS], gates = gates_of(scan), cells = cells_of(scan);
-    uint32_t columns = (uint32_t)h[ULDREVIN_HEAD_COLUMNS], rows = (uint32_t)h[ULDREVIN_HEAD_ROWS];
-    uint32_t first = (uint32_t)h[ULDREVIN_HEAD_FIRST], spacing = (uint32_t)h[ULDREVIN_HEAD_SPACING];
-    uint32_t by_quality = (uint32_t)h[ULDREVIN_HEAD_WEIGHTING];
+    size_t rays = (size_t)scan->head.rays, gates = gates_of(scan), cells = cells_of(scan);
     grid->ledger = list(gates, sizeof *grid->ledger);
     grid->counts = list(cells, sizeof *grid->counts);
     grid->quality_sums = list(cells, sizeof *grid->quality_sums);
     grid->value_sums = list(cells, sizeof *grid->value_sums);
     grid->means = list(cells, sizeof *grid->means);
     grid->cell_qualities = list(cells, sizeof *grid->cell_qualities);
-    if (h[ULDREVIN_HEAD_KIND] == ULDREVIN_KIND_RADOLAN)
-        return uldrevin_remap_radolan((uint32_t)rays, (uint32_t)h[ULDREVIN_HEAD_GATES], first, spacing,
-                                      h[ULDREVIN_HEAD_LATITUDE], h[ULDREVIN_HEAD_LONGITUDE],
-                                      h[ULDREVIN_HEAD_X], h[ULDREVIN_HEAD_Y], (uint32_t)h[ULDREVIN_HEAD_SIDE], columns, rows,
-                                      by_quality, scan->azimuths, rays, scan->values, gates, scan->qualities, gates,
-                                      grid->ledger, gates, grid->counts, cells, grid->quality_sums, cells,
-                                      grid->value_sums, cells, grid->means, cells, grid->cell_qualities, cells);
-    return uldrevin_remap_hrap((uint32_t)rays, (uint32_t)h[ULDREVIN_HEAD_GATES], first, spacing,
-                               h[ULDREVIN_HEAD_LATITUDE], h[ULDREVIN_HEAD_LONGITUDE],
-                               h[ULDREVIN_HEAD_X], h[ULDREVIN_HEAD_Y], columns, rows,
-                               by_quality, scan->azimuths, rays, scan->values, gates, scan->qualities, gates,
-                               grid->ledger, gates, grid->counts, cells, grid->quality_sums, cells,
-                               grid->value_sums, cells, grid->means, cells, grid->cell_qualities, cells);
+    return uldrevin_remap(&scan->head, scan->azimuths, rays, scan->values, gates, scan->qualities, gates,
+                          grid->ledger, gates, grid->counts, cells, grid->quality_sums, cells,
+                          grid->value_sums, cells, grid->means, cells, grid->cell_qualities, cells);
 }
 
 static size_t placed_in(const struct scan *scan, const struct grid *grid)
@@ -93,8 +78,8 @@ static size_t placed_in(const struct scan *scan, const struct grid *grid)
 
 static void print_grid(const struct scan *scan, const struct grid *grid)
 {
-    size_t columns = (size_t)scan->head[ULDREVIN_HEAD_COLUMNS];
-    printf("grid %zu %" PRId64 "\n", columns, scan->head[ULDREVIN_HEAD_ROWS]);
+    size_t columns = (size_t)scan->head.grid.columns;
+    printf("grid %zu %" PRId64 "\n", columns, scan->head.grid.rows);
     printf("gates %zu placed %zu\n", gates_of(scan), placed_in(scan, grid));
     for (size_t cell = 0; cell < cells_of(scan); cell++)
         if (grid->counts[cell] != 0)
@@ -104,7 +89,7 @@ static void print_grid(const struct scan *scan, const struct grid *grid)
 
 static void print_ledger(const struct scan *scan, const struct grid *grid)
 {
-    size_t gates = (size_t)scan->head[ULDREVIN_HEAD_GATES];
+    size_t gates = (size_t)scan->head.gates;
     printf("ledger\n");
     for (size_t k = 0; k < gates_of(scan); k++)
         if (grid->ledger[k] == ULDREVIN_OUTSIDE)

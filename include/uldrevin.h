@@ -6,9 +6,10 @@
  *
  * Units. Angles are ten-thousandths of a degree, lengths are centimetres. Azimuths are clockwise from north, longitudes east positive.
  *
- * Answers. Every function but the sine and the cosine answers 0 when it is done, or a refusal number. No argument need be checked first.
- * After a refusal everything that was lent for output holds what it held before. The lowest number that applies is given, but for
- * records, which are checked from the front:
+ * Answers. Every function but the sine and the cosine answers 0 when it is done, or a refusal number. No argument need be checked first:
+ * every number in a struct has an answer, and so have the azimuth and the range of a single gate. One that is out of bounds is refused by
+ * its own rule, whatever its size and sign. After a refusal everything that was lent for output holds what it held before. The lowest
+ * number that applies is given, but for records, which are checked from the front:
  *
  *    1  the number of rays is not 1 to 720
  *    2  the number of gates in a ray is not 1 to 1,000
@@ -25,9 +26,10 @@
  *   15  the scan has over 32,767 gates, too many for a record
  *   16  the buffer is shorter than the record
  *
- * Lists. A list is lent as a pointer to its first number and its length in numbers. A pointer is never null, not even with the length 0,
- * and points to as many numbers as the length says. What is lent for output overlaps nothing else that is lent to the same call. Nothing
- * is kept after the call, and nothing is allocated; calls from several threads do not disturb each other.
+ * Pointers. A struct or a single number is lent as a pointer to it, a list as a pointer to its first number and its length in numbers. A
+ * pointer is never null, not even with the length 0, and points to as many numbers as the length says. What is lent for output overlaps
+ * nothing else that is lent to the same call. Nothing is kept after the call, and nothing is allocated; calls from several threads do not
+ * disturb each other.
  */
 #ifndef ULDREVIN_H
 #define ULDREVIN_H
@@ -52,32 +54,49 @@ extern "C" {
 int64_t uldrevin_sine(int64_t angle);
 int64_t uldrevin_cosine(int64_t angle);
 
-/*
- * Grids. Columns and rows are each 1 to 1,500.
- *   RADOLAN  corner_x, corner_y: the south-west corner, each -2,000,000,000 to 2,000,000,000; side: of a cell, 10,000 to 10,000,000
- *   HRAP     i, j: the first column and the first row of the mesh, each -10,000 to 10,000; a cell's side is 476,250
- * A cell's number is row x columns + column. Rows count northward and columns eastward, both from 0. A gate on a west or south edge
- * belongs to the cell east or north of it.
- */
+/* The radar's site. A number out of bounds is refused by 4. */
+struct uldrevin_site {
+    int64_t latitude;  /* 200,000 to 750,000 */
+    int64_t longitude; /* -1,800,000 to 1,800,000 */
+};
+
+/* The kinds of grid. */
+#define ULDREVIN_KIND_RADOLAN 1
+#define ULDREVIN_KIND_HRAP 2
 
 /*
- * Places one gate. latitude, longitude: the site. azimuth: 0 to 3,599,999. range: 0 to 46,000,000, taken along the sphere.
+ * A grid. A number out of bounds and a kind other than these two are refused by 5. A cell's number is row x columns + column. Rows count
+ * northward and columns eastward, both from 0. A gate on a west or south edge belongs to the cell east or north of it.
+ */
+struct uldrevin_grid {
+    int64_t kind;    /* ULDREVIN_KIND_RADOLAN or ULDREVIN_KIND_HRAP */
+    int64_t x;       /* RADOLAN: the south-west corner's x, -2,000,000,000 to 2,000,000,000; HRAP: the first column I, -10,000 to 10,000 */
+    int64_t y;       /* RADOLAN: the corner's y; HRAP: the first row J; with the limits of x */
+    int64_t side;    /* RADOLAN: of a cell, 10,000 to 10,000,000; HRAP: plays no part in a call, and is 476,250 in a head that is read */
+    int64_t columns; /* 1 to 1,500 */
+    int64_t rows;    /* 1 to 1,500 */
+};
+
+/* A scan without its lists. Gate g of a ray, from 0, has its centre at first + g x spacing. */
+struct uldrevin_scan {
+    struct uldrevin_site site;
+    int64_t rays;    /* 1 to 720, else refused by 1 */
+    int64_t gates;   /* those of a ray, 1 to 1,000, else refused by 2 */
+    int64_t first;   /* 0 to 46,000,000, which the last centre does not exceed either, else refused by 3 */
+    int64_t spacing; /* 1 to 1,000,000, else refused by 3 */
+    struct uldrevin_grid grid;
+    int64_t weighting; /* 0 plain, any other number by quality; 0 or 1 in a head that is read */
+};
+
+/*
+ * Places one gate. azimuth: 0 to 3,599,999, else refused by 7. range: 0 to 46,000,000, taken along the sphere, else refused by 3.
  * cell: the gate's cell, ULDREVIN_OUTSIDE outside the grid. x, y: its position, inside or outside. Refusals: 3, 4, 5, 7.
  */
-uint32_t uldrevin_place_radolan(int64_t latitude, int64_t longitude,
-                                int64_t corner_x, int64_t corner_y, uint32_t side, uint32_t columns, uint32_t rows,
-                                uint32_t azimuth, uint32_t range,
-                                uint32_t *cell, int64_t *x, int64_t *y);
-
-uint32_t uldrevin_place_hrap(int64_t latitude, int64_t longitude,
-                             int64_t i, int64_t j, uint32_t columns, uint32_t rows,
-                             uint32_t azimuth, uint32_t range,
-                             uint32_t *cell, int64_t *x, int64_t *y);
+uint32_t uldrevin_place(const struct uldrevin_site *site, const struct uldrevin_grid *grid, int64_t azimuth, int64_t range,
+                        uint32_t *cell, int64_t *x, int64_t *y);
 
 /*
- * Remaps a whole scan. rays: 1 to 720. gates: those of a ray, 1 to 1,000. Gate g of a ray, from 0, has its centre at first + g x spacing;
- * first: 0 to 46,000,000; spacing: 1 to 1,000,000; the last centre is at most 46,000,000. by_quality: 0 plain, any other number by quality.
- * In come, ray by ray:
+ * Remaps a whole scan. In come, ray by ray:
  *   azimuths        one a ray, in any order; equal ones may occur
  *   values          one a gate, rays x gates
  *   qualities       one a gate, rays x gates, each 0 to 100
@@ -90,65 +109,28 @@ uint32_t uldrevin_place_hrap(int64_t latitude, int64_t longitude,
  *   cell_qualities  one a cell: the quality sum by the count, 0 for an empty cell
  * Refusals: 1 to 8.
  */
-uint32_t uldrevin_remap_radolan(uint32_t rays, uint32_t gates, uint32_t first, uint32_t spacing,
-                                int64_t latitude, int64_t longitude,
-                                int64_t corner_x, int64_t corner_y, uint32_t side, uint32_t columns, uint32_t rows,
-                                uint32_t by_quality,
-                                const uint32_t *azimuths, size_t azimuths_length,
-                                const uint16_t *values, size_t values_length,
-                                const uint8_t *qualities, size_t qualities_length,
-                                uint32_t *ledger, size_t ledger_length,
-                                uint32_t *counts, size_t counts_length,
-                                uint32_t *quality_sums, size_t quality_sums_length,
-                                uint64_t *value_sums, size_t value_sums_length,
-                                uint16_t *means, size_t means_length,
-                                uint8_t *cell_qualities, size_t cell_qualities_length);
-
-uint32_t uldrevin_remap_hrap(uint32_t rays, uint32_t gates, uint32_t first, uint32_t spacing,
-                             int64_t latitude, int64_t longitude,
-                             int64_t i, int64_t j, uint32_t columns, uint32_t rows,
-                             uint32_t by_quality,
-                             const uint32_t *azimuths, size_t azimuths_length,
-                             const uint16_t *values, size_t values_length,
-                             const uint8_t *qualities, size_t qualities_length,
-                             uint32_t *ledger, size_t ledger_length,
-                             uint32_t *counts, size_t counts_length,
-                             uint32_t *quality_sums, size_t quality_sums_length,
-                             uint64_t *value_sums, size_t value_sums_length,
-                             uint16_t *means, size_t means_length,
-                             uint8_t *cell_qualities, size_t cell_qualities_length);
-
-/* The numbers of a record's head, by their place in a list of ULDREVIN_HEAD_NUMBERS. */
-enum uldrevin_head_place {
-    ULDREVIN_HEAD_LATITUDE,
-    ULDREVIN_HEAD_LONGITUDE,
-    ULDREVIN_HEAD_RAYS,
-    ULDREVIN_HEAD_GATES,
-    ULDREVIN_HEAD_FIRST,
-    ULDREVIN_HEAD_SPACING,
-    ULDREVIN_HEAD_KIND, /* 1 RADOLAN, 2 HRAP */
-    ULDREVIN_HEAD_X,    /* corner x, or I */
-    ULDREVIN_HEAD_Y,    /* corner y, or J */
-    ULDREVIN_HEAD_SIDE, /* 476,250 for HRAP */
-    ULDREVIN_HEAD_COLUMNS,
-    ULDREVIN_HEAD_ROWS,
-    ULDREVIN_HEAD_WEIGHTING, /* 0 plain, 1 by quality */
-    ULDREVIN_HEAD_NUMBERS    /* how many there are: 13 */
-};
-#define ULDREVIN_KIND_RADOLAN 1
-#define ULDREVIN_KIND_HRAP 2
+uint32_t uldrevin_remap(const struct uldrevin_scan *scan,
+                        const uint32_t *azimuths, size_t azimuths_length,
+                        const uint16_t *values, size_t values_length,
+                        const uint8_t *qualities, size_t qualities_length,
+                        uint32_t *ledger, size_t ledger_length,
+                        uint32_t *counts, size_t counts_length,
+                        uint32_t *quality_sums, size_t quality_sums_length,
+                        uint64_t *value_sums, size_t value_sums_length,
+                        uint16_t *means, size_t means_length,
+                        uint8_t *cell_qualities, size_t cell_qualities_length);
 
 /*
- * Checks a scan record and gives its head. record: its bytes, of any length and content. head: ULDREVIN_HEAD_NUMBERS numbers.
+ * Checks a scan record and gives its head. record: its bytes, of any length and content. scan: the head, every number of it written.
  * Refusals: 11 to 14 from the front, then 1 to 5, 7 and 8.
  */
-uint32_t uldrevin_record_head(const uint8_t *record, size_t record_length, int64_t *head);
+uint32_t uldrevin_record_head(const uint8_t *record, size_t record_length, struct uldrevin_scan *scan);
 
 /*
  * Reads a scan record. azimuths: as many as the record has rays; values and qualities: rays x gates each; uldrevin_record_head tells both.
  * Refusals: 11 to 14 from the front, then 1 to 8.
  */
-uint32_t uldrevin_record_read(const uint8_t *record, size_t record_length, int64_t *head,
+uint32_t uldrevin_record_read(const uint8_t *record, size_t record_length, struct uldrevin_scan *scan,
                               uint32_t *azimuths, size_t azimuths_length,
                               uint16_t *values, size_t values_length,
                               uint8_t *qualities, size_t qualities_length);
@@ -160,26 +142,14 @@ uint32_t uldrevin_record_read(const uint8_t *record, size_t record_length, int64
 uint32_t uldrevin_record_field(const uint8_t *record, size_t record_length, uint32_t number, uint64_t *start, uint64_t *length);
 
 /*
- * Writes the record of a scan, given as to uldrevin_remap_radolan or uldrevin_remap_hrap, into a buffer. *length: the record's bytes, which
- * are 59 + 4 x rays + 3 x rays x gates for RADOLAN and 8 fewer for HRAP. The buffer behind them stays. Refusals: 1 to 8, 15, 16.
+ * Writes the record of a scan, given as to uldrevin_remap, into a buffer. *length: the record's bytes, which are
+ * 59 + 4 x rays + 3 x rays x gates for RADOLAN and 8 fewer for HRAP. The buffer behind them stays. Refusals: 1 to 8, 15, 16.
  */
-uint32_t uldrevin_record_write_radolan(uint32_t rays, uint32_t gates, uint32_t first, uint32_t spacing,
-                                       int64_t latitude, int64_t longitude,
-                                       int64_t corner_x, int64_t corner_y, uint32_t side, uint32_t columns, uint32_t rows,
-                                       uint32_t by_quality,
-                                       const uint32_t *azimuths, size_t azimuths_length,
-                                       const uint16_t *values, size_t values_length,
-                                       const uint8_t *qualities, size_t qualities_length,
-                                       uint8_t *buffer, size_t buffer_length, uint64_t *length);
-
-uint32_t uldrevin_record_write_hrap(uint32_t rays, uint32_t gates, uint32_t first, uint32_t spacing,
-                                    int64_t latitude, int64_t longitude,
-                                    int64_t i, int64_t j, uint32_t columns, uint32_t rows,
-                                    uint32_t by_quality,
-                                    const uint32_t *azimuths, size_t azimuths_length,
-                                    const uint16_t *values, size_t values_length,
-                                    const uint8_t *qualities, size_t qualities_length,
-                                    uint8_t *buffer, size_t buffer_length, uint64_t *length);
+uint32_t uldrevin_record_write(const struct uldrevin_scan *scan,
+                               const uint32_t *azimuths, size_t azimuths_length,
+                               const uint16_t *values, size_t values_length,
+                               const uint8_t *qualities, size_t qualities_length,
+                               uint8_t *buffer, size_t buffer_length, uint64_t *length);
 
 #ifdef __cplusplus
 }

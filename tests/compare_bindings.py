@@ -1,23 +1,16 @@
-"""The library from C, Rust and Python: the same functions, the same sentences for refusals, the same grids and ledgers.
+"""The library from C, Rust and Python: the same functions, structs and sentences for refusals, the same grids and ledgers.
 
     python3 tests/compare_bindings.py
 
 runs these comparisons alone, on the library that `make library` built and the programs in target/bin.
 """
-import re
 import subprocess
 import sys
-from pathlib import Path
-from types import SimpleNamespace
 
-ROOT = Path(__file__).resolve().parent.parent
-sys.path.insert(0, str(ROOT / "bindings" / "python"))
-
-import uldrevin  # noqa: E402
+import declarations
+from declarations import ROOT
 
 ARCHIVE = "target/staticlib/libuldrevin.a"
-HEADER = ROOT / "include" / "uldrevin.h"
-RUST = ROOT / "bindings" / "rust" / "src"
 GCC = ["gcc", "-std=c99", "-Wall", "-Wextra", "-Werror", "-pedantic", "-O2", "-Iinclude"]
 CARGO = ["cargo", "--offline", "--quiet"]
 LINES = 10  # shown of a failed command
@@ -34,75 +27,6 @@ def failed(words):
         return []
     printed = (done.stdout + done.stderr).decode(errors="replace").splitlines()
     return [f"it ended with status {done.returncode}", *printed[-LINES:]]
-
-
-# Names.
-
-
-def exported():
-    """The functions that the shared library exports."""
-    listed = ended(["nm", "-D", "--defined-only", "target/libuldrevin.so"]).stdout.decode()
-    return set(re.findall(r" T (uldrevin_\w+)", listed))
-
-
-def declared(path, pattern):
-    return set(re.findall(pattern, path.read_text(), re.MULTILINE))
-
-
-class Asked:
-    """Stands in for the shared library and keeps the names that are asked of it."""
-
-    def __init__(self):
-        self.names = set()
-
-    def __getattr__(self, name):
-        self.names.add(name)
-        return SimpleNamespace()
-
-
-def declared_in_python():
-    asked = Asked()
-    uldrevin._declare(asked)
-    return asked.names
-
-
-def names():
-    functions = exported()
-    for language, found in (
-        ("C", declared(HEADER, r"^\w+ (uldrevin_\w+)\(")),
-        ("Rust", declared(RUST / "exports.rs", r"fn (uldrevin_\w+)\(")),
-        ("Python", declared_in_python()),
-    ):
-        differences = [] if functions else ["the library exports nothing"]
-        differences += [f"{name} is not declared" for name in sorted(functions - found)]
-        differences += [f"{name} is not exported" for name in sorted(found - functions)]
-        yield f"the functions that the library exports are declared for {language}", differences
-
-
-# Sentences.
-
-
-def header_sentences():
-    return re.findall(r"^ \*\s+(\d+)  (\w.*)$", HEADER.read_text(), re.MULTILINE)
-
-
-def rust_sentences():
-    return re.findall(r'^\s+(\d+) => "(.*)",$', (RUST / "refusal.rs").read_text(), re.MULTILINE)
-
-
-def python_sentences():
-    return [(str(number), sentence) for number, sentence in uldrevin.SENTENCES.items()]
-
-
-NUMBERS = [*range(1, 9), *range(11, 17)]  # document 01's refusals
-
-
-def sentences():
-    expected = header_sentences()
-    differences = [] if [int(number) for number, _ in expected] == NUMBERS else [f"the header has {expected}"]
-    for language, found in (("Rust", rust_sentences()), ("Python", python_sentences())):
-        differences += [f"{language}: {entry}" for entry in sorted(set(found) ^ set(expected))]
-    return differences
 
 
 # First grids.
@@ -147,8 +71,9 @@ def grids_differ(command):
 
 
 def comparisons():
-    yield from names()
-    yield "the sentences of the refusals are the same in C, Rust and Python", sentences()
+    yield from declarations.functions()
+    yield "the structs have the same fields in C, Rust and Python", declarations.structs()
+    yield "the sentences of the refusals are the same in C, Rust and Python", declarations.sentences()
     yield "a C program compiles without a warning and finds what document 01 says", (
         built_for_c("tests/from_c.c", "from_c") or failed(["target/from_c"])
     )

@@ -10,10 +10,10 @@ import good_records
 import library
 from good_records import SEED
 from good_scans import SHEET
-from lent_lists import GIVEN, with_margins
-from record_calls import changed_lines, field_lines, head_lines, read_lines, refused, write_lines
+from lent_lists import GIVEN, changed_lines, with_margins
+from record_calls import field_lines, head_lines, read_lines, refused, write_lines
 from second_program import record
-from wrong_scans import Change, apply, limits, pairs
+from wrong_scans import WRONG_LISTS, Change, apply, far_numbers, far_pairs, limits, pairs
 
 PAGE = Path(__file__).resolve().parent.parent / "docs" / "RECORD.md"
 SHOWN = 150  # bytes printed of one record
@@ -48,7 +48,7 @@ def lengths_asked(data):
 def reading_lines(compiled, data, expected):
     """The calls for the head and the fields, and those that fill lists of exact lengths and of lengths wrong by one."""
     held = with_margins("B", data)
-    before = held[:]
+    before = bytes(held)
     lines = head_lines(compiled, held, expected) + field_lines(compiled, held, data, expected)
     asked = lengths_asked(data)
     for steps in ((0, 0, 0), next(STEPS), next(STEPS), next(STEPS)):
@@ -117,9 +117,7 @@ CHANGES = (
     one_change(3, spacing=0),
     one_change(4, latitude=199_999),
     one_change(5, columns=0),
-    Change(6, {}, {"values": 1}, {}),
-    Change(7, {}, {}, {"azimuths": (999, 3_600_000)}),
-    Change(8, {}, {}, {"qualities": (999, 101)}),
+    *WRONG_LISTS,
 )
 
 
@@ -136,6 +134,8 @@ def not_written(compiled):
     for name, scans in (
         ("at both sides of each limit", [apply(*chosen)[0] for chosen in limits()]),
         ("with two numbers wrong, every eighth pair", [apply(*chosen)[0] for chosen in islice(pairs(), 0, None, 8)]),
+        ("with a number far beyond its limits", [apply(*chosen)[0] for chosen in far_numbers()]),
+        ("with two such numbers, every eighth pair", [apply(*chosen)[0] for chosen in islice(far_pairs(), 0, None, 8)]),
         ("of over 32,767 gates", list(too_large())),
     ):
         lines, numbers = [], Counter()

@@ -1,15 +1,15 @@
 """The whole scan by the compiled library against the second program's: the answer and every number of every list."""
 import random
-from ctypes import POINTER, c_int64, c_size_t, c_uint32
 from itertools import combinations, product
 
 import library
 from good_scans import SEED, SHEET, groups
-from lent_lists import BY_QUALITY, GIVEN, HELD, MARGIN, earlier, filled_with, lending, with_margins
+from lent_lists import GIVEN, MARGIN, changed_lines, earlier, filled_with, given_lists, lending_all
+from lent_structs import SIDES, WEIGHTINGS, scan_struct
 from second_program import placement, scan as rules
 from second_program.placement import OUTSIDE, Hrap, Radolan
 from second_program.scan import Lent, Remapped, Scan
-from wrong_scans import apply, limits, pairs, together
+from wrong_scans import HRAP_SCAN, RADOLAN_SCAN, apply, far_numbers, far_pairs, limits, pairs, together
 
 SHOWN = 3  # places printed of one list
 
@@ -20,33 +20,14 @@ WRITTEN = Lent("I", "I", "I", "Q", "H", "B")
 # The library's answers.
 
 
-def load():
-    compiled = library.load()
-    lists = [part for letter in (*GIVEN.values(), *WRITTEN) for part in (POINTER(HELD[letter]), c_size_t)]
-    scan = [c_uint32, c_uint32, c_uint32, c_uint32, c_int64, c_int64]
-    radolan, hrap = [c_int64, c_int64, c_uint32, c_uint32, c_uint32], [c_int64, c_int64, c_uint32, c_uint32]
-    compiled.uldrevin_remap_radolan.argtypes = [*scan, *radolan, c_uint32, *lists]
-    compiled.uldrevin_remap_hrap.argtypes = [*scan, *hrap, c_uint32, *lists]
-    for function in (compiled.uldrevin_remap_radolan, compiled.uldrevin_remap_hrap):
-        function.restype = c_uint32
-    return compiled
-
-
 def answer(compiled, scan, lengths):
-    """The library's answer, the lent lists before and after the call, and which of the given lists have been changed."""
-    function = compiled.uldrevin_remap_radolan if isinstance(scan.grid, Radolan) else compiled.uldrevin_remap_hrap
-    given = [with_margins(letter, getattr(scan, name)) for name, letter in GIVEN.items()]
-    given_before = [held[:] for held in given]
+    """The library's answer, the lent lists before and after the call, and where what was given has been changed."""
+    head, given = scan_struct(scan), given_lists(scan)
+    given_before = [bytes(one) for one in (head, *given)]
     lists = Lent(*(earlier(letter, length) for letter, length in zip(WRITTEN, lengths)))
     before = Lent(*(held[:] for held in lists))
-    number = function(
-        *(scan.rays, scan.gates, scan.first, scan.spacing, scan.latitude, scan.longitude),
-        *scan.grid,
-        next(BY_QUALITY) if scan.by_quality else 0,
-        *(part for held in (*given, *lists) for part in lending(held)),
-    )
-    changed = [name for name, held, old in zip(GIVEN, given, given_before) if held != old]
-    return number, before, lists, changed
+    number = compiled.uldrevin_remap(head, *lending_all([*given, *lists]))
+    return number, before, lists, changed_lines(["scan", *GIVEN], [head, *given], given_before)
 
 
 def described(scan):
@@ -84,8 +65,7 @@ def list_differences(scan, name, got, expected, says):
 
 def differences_from(compiled, scan, lengths, expected):
     """Where the library's answer and lists differ from the expected ones. After a refusal the lists are the earlier ones."""
-    number, before, after, changed = answer(compiled, scan, lengths)
-    lines = [f"{name}, which is only to be read, has been changed" for name in changed]
+    number, before, after, lines = answer(compiled, scan, lengths)
     if number != expected.refusal:
         lines.append(f"answered with {number} in the library and with {expected.refusal} by the rule")
     says = "by the rule" if expected.refusal == 0 else "before the call, which has to be refused"
@@ -157,6 +137,19 @@ def whole_scans(compiled):
     yield f"the second program's {scans} ledgers beside its placement of single gates, {singles} gates", single_lines
 
 
+def in_turn(compiled):
+    """Each number for a weighting by quality, and on HRAP each side with each weighting."""
+    radolan, hrap = (scan._replace(by_quality=True) for scan in (RADOLAN_SCAN, HRAP_SCAN))
+    scans = [radolan] * len(WEIGHTINGS) + [hrap] * (len(WEIGHTINGS) * len(SIDES))
+    scans += [hrap._replace(by_quality=False)] * len(SIDES)
+    lines = []
+    for scan in scans:
+        lengths = rules.lent_lengths(scan)
+        found = differences_from(compiled, scan, lengths, rules.remap(scan, lengths))
+        lines += [f"{described(scan)}: {line}" for line in found]
+    return f"{len(WEIGHTINGS)} weightings and {len(SIDES)} sides of an HRAP grid in turn, {len(scans)} scans", lines
+
+
 # Refusals.
 
 
@@ -193,6 +186,9 @@ def refusals(compiled):
     lines, met = refusal_differences(compiled, chosen)
     lines += not_met(met, 2)
     yield f"refusals of a scan in pairs, {len(chosen)} scans", lines
+    for words, chosen in (("one number", list(far_numbers())), ("two numbers", list(far_pairs()))):
+        lines, _ = refusal_differences(compiled, chosen)
+        yield f"refusals of a scan, {words} far beyond the limits, {len(chosen)} scans", lines
     chosen = list(together(random.Random(SEED)))
     lines, _ = refusal_differences(compiled, chosen)
     yield f"refusals of a scan, three to eight together, {len(chosen)} scans, seed {SEED}", lines
@@ -278,8 +274,9 @@ def case_differences(compiled, scan, expected):
 
 
 def comparisons():
-    compiled = load()
+    compiled = library.load()
     yield from whole_scans(compiled)
+    yield in_turn(compiled)
     yield from refusals(compiled)
     chosen = list(cases())
     lines = [

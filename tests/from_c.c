@@ -1,11 +1,15 @@
 /*
- * The library as a C program calls it: each function of include/uldrevin.h, done and refused, with what is lent looked at each time.
- * The numbers expected are document 01's own examples, and the bytes those of docs/RECORD.md.
+ * The library as a C program calls it: each function of include/uldrevin.h, done and refused, with what is lent looked at each time, and
+ * each number of the structs at its place. The numbers expected are document 01's own examples, and the bytes those of docs/RECORD.md.
  */
+#include <inttypes.h>
 #include <stdio.h>
 #include <string.h>
 
 #include "uldrevin.h"
+
+#define BEYOND (INT64_C(1) << 32) /* the low 32 bits are 0 */
+#define LENGTH(list) (sizeof(list) / sizeof *(list))
 
 static unsigned checks, differences;
 
@@ -16,6 +20,14 @@ static void check(const char *what, int holds)
         differences++;
         printf("different: %s\n", what);
     }
+}
+
+/* What a check with some other number is called, until the next is. */
+static const char *with(const char *kind, const char *name, int64_t number)
+{
+    static char text[80];
+    snprintf(text, sizeof text, "%s %s %" PRId64, kind, name, number);
+    return text;
 }
 
 /* ---- sine and cosine */
@@ -43,16 +55,24 @@ static int same_place(struct place one, struct place other)
     return one.cell == other.cell && one.x == other.x && one.y == other.y;
 }
 
-static uint32_t place_radolan(int64_t latitude, uint32_t columns, uint32_t azimuth, uint32_t range, struct place *p)
+static uint32_t place(const struct uldrevin_site *site, const struct uldrevin_grid *grid, int64_t azimuth, int64_t range, struct place *p)
 {
     *p = before;
-    return uldrevin_place_radolan(latitude, 100000, -52346220, -465864470, 100000, columns, 900, azimuth, range, &p->cell, &p->x, &p->y);
+    return uldrevin_place(site, grid, azimuth, range, &p->cell, &p->x, &p->y);
 }
 
-static uint32_t place_hrap(int64_t longitude, uint32_t rows, uint32_t azimuth, uint32_t range, struct place *p)
+static uint32_t place_radolan(int64_t latitude, int64_t columns, int64_t azimuth, int64_t range, struct place *p)
 {
-    *p = before;
-    return uldrevin_place_hrap(600000, longitude, 400, 932, 2, rows, azimuth, range, &p->cell, &p->x, &p->y);
+    struct uldrevin_site site = {.latitude = latitude, .longitude = 100000};
+    struct uldrevin_grid grid = {ULDREVIN_KIND_RADOLAN, .x = -52346220, .y = -465864470, .side = 100000, .columns = columns, .rows = 900};
+    return place(&site, &grid, azimuth, range, p);
+}
+
+static uint32_t place_hrap(int64_t longitude, int64_t rows, int64_t azimuth, int64_t range, struct place *p)
+{
+    struct uldrevin_site site = {.latitude = 600000, .longitude = longitude};
+    struct uldrevin_grid grid = {ULDREVIN_KIND_HRAP, .x = 400, .y = 932, .side = 0, .columns = 2, .rows = rows};
+    return place(&site, &grid, azimuth, range, p);
 }
 
 static void gates(void)
@@ -72,31 +92,75 @@ static void gates(void)
     check("HRAP azimuth", place_hrap(-1050000, 1, UINT32_MAX, 0, &p) == 7 && same_place(p, before));
 }
 
-/* ---- a whole scan: document 01's example, one ray of two gates on two cells, by quality */
+/* An azimuth or a range that is negative or that 32 bits do not hold, also with good low 32 bits. */
+static void far_gates(void)
+{
+    static const int64_t wrong[] = {-1, INT64_MIN, INT64_MAX, BEYOND, BEYOND + 900000, 900000 - BEYOND};
+    for (size_t k = 0; k < LENGTH(wrong); k++) {
+        const int64_t far = wrong[k];
+        struct place p;
+        check(with("RADOLAN", "azimuth", far), place_radolan(510000, 900, far, 0, &p) == 7 && same_place(p, before));
+        check(with("RADOLAN", "range", far), place_radolan(510000, 900, 0, far, &p) == 3 && same_place(p, before));
+        check(with("HRAP", "azimuth", far), place_hrap(-1050000, 1, far, 0, &p) == 7 && same_place(p, before));
+        check(with("HRAP", "range", far), place_hrap(-1050000, 1, 0, far, &p) == 3 && same_place(p, before));
+    }
+}
 
+/* ---- whole scans of one ray of two gates on two cells; document 01's example, by quality, and a plain one */
+
+static const struct uldrevin_scan hrap = {
+    .site = {.latitude = 600000, .longitude = -1050000},
+    .rays = 1,
+    .gates = 2,
+    .first = 0,
+    .spacing = 100000,
+    .grid = {ULDREVIN_KIND_HRAP, .x = 400, .y = 932, .side = 476250, .columns = 2, .rows = 1},
+    .weighting = 1,
+};
+static const struct uldrevin_scan radolan = {
+    .site = {.latitude = 510000, .longitude = 100000},
+    .rays = 1,
+    .gates = 2,
+    .first = 0,
+    .spacing = 100000,
+    .grid = {ULDREVIN_KIND_RADOLAN, .x = 0, .y = -425000000, .side = 10000000, .columns = 2, .rows = 1},
+    .weighting = 0,
+};
 static const uint32_t azimuths[1] = {0};
 static const uint16_t values[2] = {1, 7};
 static const uint8_t qualities[2] = {90, 10};
 
+/* They fill the struct, so that all of it can be compared. */
 struct lists {
     uint32_t ledger[2], counts[2], quality_sums[2];
     uint64_t value_sums[2];
     uint16_t means[2];
-    uint8_t cell_qualities[2];
+    uint8_t cell_qualities[2], behind[2];
 };
 
-static uint32_t remap_hrap(uint32_t rays, uint32_t spacing, const uint8_t *given, size_t ledger_length, struct lists *l)
+static uint32_t remap_lists(const struct uldrevin_scan *scan, const uint32_t *azimuths_given, const uint8_t *qualities_given,
+                            size_t ledger_length, struct lists *l)
 {
-    return uldrevin_remap_hrap(rays, 2, 0, spacing, 600000, -1050000, 400, 932, 2, 1, 1, azimuths, 1, values, 2, given, 2,
-                               l->ledger, ledger_length, l->counts, 2, l->quality_sums, 2, l->value_sums, 2, l->means, 2,
-                               l->cell_qualities, 2);
+    return uldrevin_remap(scan, azimuths_given, 1, values, 2, qualities_given, 2, l->ledger, ledger_length, l->counts, 2,
+                          l->quality_sums, 2, l->value_sums, 2, l->means, 2, l->cell_qualities, 2);
 }
 
-static uint32_t remap_radolan(uint32_t side, const uint32_t *given, struct lists *l)
+static uint32_t remap(const struct uldrevin_scan *scan, struct lists *l)
 {
-    return uldrevin_remap_radolan(1, 2, 0, 100000, 510000, 100000, 0, -425000000, side, 2, 1, 0, given, 1, values, 2, qualities, 2,
-                                  l->ledger, 2, l->counts, 2, l->quality_sums, 2, l->value_sums, 2, l->means, 2,
-                                  l->cell_qualities, 2);
+    return remap_lists(scan, azimuths, qualities, 2, l);
+}
+
+/* Lists that hold something else than a scan gives. */
+static struct lists held_lists(void)
+{
+    struct lists held;
+    memset(&held, 0xA5, sizeof held);
+    return held;
+}
+
+static int same_lists(const struct lists *one, const struct lists *other)
+{
+    return memcmp(one, other, sizeof *one) == 0;
 }
 
 static int empty(const struct lists *l, int cell)
@@ -114,28 +178,29 @@ static int both_gates(const struct lists *l, int cell, uint64_t value_sum, uint1
 
 static void scans(void)
 {
-    struct lists held, l;
-    memset(&held, 0xA5, sizeof held);
-    l = held;
-    check("HRAP scan remapped", remap_hrap(1, 100000, qualities, 2, &l) == 0);
+    const struct lists held = held_lists();
+    struct lists l = held;
+    check("HRAP scan remapped", remap(&hrap, &l) == 0);
     check("HRAP ledger", l.ledger[0] == 1 && l.ledger[1] == 1);
     check("HRAP cells, by quality", empty(&l, 0) && both_gates(&l, 1, 160, 1));
     l = held;
-    check("RADOLAN scan remapped", remap_radolan(10000000, azimuths, &l) == 0);
+    check("RADOLAN scan remapped", remap(&radolan, &l) == 0);
     check("RADOLAN ledger", l.ledger[0] == 0 && l.ledger[1] == 0);
     check("RADOLAN cells, plain", both_gates(&l, 0, 8, 4) && empty(&l, 1));
     l = held;
-    uint8_t bad_quality[2] = {90, 101};
-    uint32_t bad_azimuth[1] = {3600000};
-    check("scan of no rays", remap_hrap(0, 100000, qualities, 2, &l) == 1 && memcmp(&l, &held, sizeof l) == 0);
-    check("scan with spacing 0", remap_hrap(1, 0, qualities, 2, &l) == 3 && memcmp(&l, &held, sizeof l) == 0);
-    check("scan with a short ledger", remap_hrap(1, 100000, qualities, 1, &l) == 6 && memcmp(&l, &held, sizeof l) == 0);
-    check("scan with a quality of 101", remap_hrap(1, 100000, bad_quality, 2, &l) == 8 && memcmp(&l, &held, sizeof l) == 0);
-    check("scan with a side of 0", remap_radolan(0, azimuths, &l) == 5 && memcmp(&l, &held, sizeof l) == 0);
-    check("scan with an azimuth of 360 degrees", remap_radolan(100000, bad_azimuth, &l) == 7 && memcmp(&l, &held, sizeof l) == 0);
+    static const uint8_t bad_quality[2] = {90, 101};
+    static const uint32_t bad_azimuth[1] = {3600000};
+    struct uldrevin_scan no_rays = hrap, no_spacing = hrap, no_side = radolan;
+    no_rays.rays = no_spacing.spacing = no_side.grid.side = 0;
+    check("scan of no rays", remap(&no_rays, &l) == 1 && same_lists(&l, &held));
+    check("scan with spacing 0", remap(&no_spacing, &l) == 3 && same_lists(&l, &held));
+    check("scan with a side of 0", remap(&no_side, &l) == 5 && same_lists(&l, &held));
+    check("scan with a short ledger", remap_lists(&hrap, azimuths, qualities, 1, &l) == 6 && same_lists(&l, &held));
+    check("scan with an azimuth of 360 degrees", remap_lists(&radolan, bad_azimuth, qualities, 2, &l) == 7 && same_lists(&l, &held));
+    check("scan with a quality of 101", remap_lists(&hrap, azimuths, bad_quality, 2, &l) == 8 && same_lists(&l, &held));
 }
 
-/* ---- the record of the same scan */
+/* ---- the record of document 01's example */
 
 static const uint8_t example[61] = {
     1, 0, 8,  0x00, 0x09, 0x27, 0xC0, 0xFF, 0xEF, 0xFA, 0x70,
@@ -145,48 +210,71 @@ static const uint8_t example[61] = {
     5, 0, 4,  0, 0, 0, 0,
     6, 0, 4,  0, 1, 0, 7,
     7, 0, 2,  90, 10};
-static const int64_t example_head[ULDREVIN_HEAD_NUMBERS] = {
-    600000, -1050000, 1, 2, 0, 100000, ULDREVIN_KIND_HRAP, 400, 932, 476250, 2, 1, 1};
 
-static uint32_t write_hrap(uint32_t gates_in_ray, uint8_t *buffer, size_t buffer_length, uint64_t *length)
+/* A buffer for the record of a scan of two gates, and its length. */
+struct buffer {
+    uint64_t length;
+    uint8_t bytes[80];
+};
+
+static struct buffer held_buffer(void)
 {
-    return uldrevin_record_write_hrap(1, gates_in_ray, 0, 100000, 600000, -1050000, 400, 932, 2, 1, 1, azimuths, 1, values, 2, qualities, 2,
-                                      buffer, buffer_length, length);
+    struct buffer held;
+    memset(&held, 0xA5, sizeof held);
+    return held;
+}
+
+static int same_buffer(const struct buffer *one, const struct buffer *other)
+{
+    return memcmp(one, other, sizeof *one) == 0;
+}
+
+static uint32_t write_record_into(const struct uldrevin_scan *scan, size_t buffer_length, struct buffer *b)
+{
+    return uldrevin_record_write(scan, azimuths, 1, values, 2, qualities, 2, b->bytes, buffer_length, &b->length);
+}
+
+static uint32_t write_record(const struct uldrevin_scan *scan, struct buffer *b)
+{
+    return write_record_into(scan, sizeof b->bytes, b);
+}
+
+static int same_scan(const struct uldrevin_scan *one, const struct uldrevin_scan *other)
+{
+    return memcmp(one, other, sizeof *one) == 0;
 }
 
 static void records_written(void)
 {
-    uint8_t buffer[70], held[70];
-    uint64_t length = 5;
-    memset(held, 0xA5, sizeof held);
-    memcpy(buffer, held, sizeof held);
-    check("record written", write_hrap(2, buffer, sizeof buffer, &length) == 0 && length == sizeof example);
-    check("record's bytes", memcmp(buffer, example, sizeof example) == 0);
-    check("buffer behind the record", memcmp(buffer + sizeof example, held, sizeof buffer - sizeof example) == 0);
-    memcpy(buffer, held, sizeof held);
-    length = 5;
-    check("buffer too short", write_hrap(2, buffer, sizeof example - 1, &length) == 16);
-    check("record of wrong lists", write_hrap(1, buffer, sizeof buffer, &length) == 6);
-    check("nothing written", length == 5 && memcmp(buffer, held, sizeof held) == 0);
-    uint32_t refusal = uldrevin_record_write_radolan(1, 2, 0, 100000, 510000, 100000, 0, 0, 100000, 9, 9, 7, azimuths, 1, values, 2,
-                                                     qualities, 2, buffer, sizeof buffer, &length);
-    check("RADOLAN record written", refusal == 0 && length == 69 && buffer[28] == 17 && buffer[49] == 1);
+    const struct buffer held = held_buffer();
+    struct buffer b = held;
+    check("record written", write_record(&hrap, &b) == 0 && b.length == sizeof example);
+    check("record's bytes", memcmp(b.bytes, example, sizeof example) == 0);
+    check("buffer behind the record",
+          memcmp(b.bytes + sizeof example, held.bytes + sizeof example, sizeof b.bytes - sizeof example) == 0);
+    b = held;
+    struct uldrevin_scan wrong = hrap;
+    wrong.gates = 1;
+    check("buffer too short", write_record_into(&hrap, sizeof example - 1, &b) == 16 && same_buffer(&b, &held));
+    check("record of wrong lists", write_record(&wrong, &b) == 6 && same_buffer(&b, &held));
+    check("RADOLAN record written", write_record(&radolan, &b) == 0 && b.length == 69 && b.bytes[28] == 17 && b.bytes[49] == 0);
 }
 
 static void records_read(void)
 {
-    int64_t head[ULDREVIN_HEAD_NUMBERS] = {0}, untouched[ULDREVIN_HEAD_NUMBERS] = {0};
+    const struct uldrevin_scan nothing = {.rays = 0};
+    struct uldrevin_scan head = nothing;
     uint32_t azimuth[1] = {9};
     uint16_t value[2] = {9, 9};
     uint8_t quality[2] = {9, 9};
-    check("head", uldrevin_record_head(example, sizeof example, head) == 0 && memcmp(head, example_head, sizeof head) == 0);
-    memset(head, 0, sizeof head);
-    check("list too short", uldrevin_record_read(example, sizeof example, head, azimuth, 1, value, 1, quality, 2) == 6);
-    check("record cut short", uldrevin_record_read(example, sizeof example - 1, head, azimuth, 1, value, 2, quality, 2) == 11);
-    check("head untouched", memcmp(head, untouched, sizeof head) == 0);
+    check("head", uldrevin_record_head(example, sizeof example, &head) == 0 && same_scan(&head, &hrap));
+    head = nothing;
+    check("list too short", uldrevin_record_read(example, sizeof example, &head, azimuth, 1, value, 1, quality, 2) == 6);
+    check("record cut short", uldrevin_record_read(example, sizeof example - 1, &head, azimuth, 1, value, 2, quality, 2) == 11);
+    check("head untouched", same_scan(&head, &nothing));
     check("lists untouched", azimuth[0] == 9 && value[0] == 9 && value[1] == 9 && quality[0] == 9 && quality[1] == 9);
-    check("read", uldrevin_record_read(example, sizeof example, head, azimuth, 1, value, 2, quality, 2) == 0);
-    check("head as read", memcmp(head, example_head, sizeof head) == 0);
+    check("read", uldrevin_record_read(example, sizeof example, &head, azimuth, 1, value, 2, quality, 2) == 0);
+    check("head as read", same_scan(&head, &hrap));
     check("lists as read", azimuth[0] == 0 && memcmp(value, values, sizeof value) == 0 && memcmp(quality, qualities, sizeof quality) == 0);
 }
 
@@ -202,27 +290,216 @@ static void fields(void)
 /* Each number that only a record has, from one change of the example. */
 static void damaged(void)
 {
-    int64_t head[ULDREVIN_HEAD_NUMBERS];
+    struct uldrevin_scan head;
     uint8_t record[sizeof example + 1];
     memcpy(record, example, sizeof example);
     record[sizeof example] = 0;
-    check("a byte behind", uldrevin_record_head(record, sizeof record, head) == 14);
+    check("a byte behind", uldrevin_record_head(record, sizeof record, &head) == 14);
     record[11] = 3;
-    check("wrong tag", uldrevin_record_head(record, sizeof example, head) == 12);
+    check("wrong tag", uldrevin_record_head(record, sizeof example, &head) == 12);
     record[11] = 2;
     record[41] = 2;
-    check("wrong weighting", uldrevin_record_head(record, sizeof example, head) == 13);
+    check("wrong weighting", uldrevin_record_head(record, sizeof example, &head) == 13);
+}
+
+/* ---- the structs: each number at its place */
+
+/* A number of a scan: its place, and the rule that refuses it, 0 for none. */
+struct number {
+    const char *name;
+    size_t place;
+    uint32_t radolan_rule, hrap_rule;
+};
+static const struct number numbers[] = {
+    {"latitude", offsetof(struct uldrevin_scan, site.latitude), 4, 4},
+    {"longitude", offsetof(struct uldrevin_scan, site.longitude), 4, 4},
+    {"rays", offsetof(struct uldrevin_scan, rays), 1, 1},
+    {"gates", offsetof(struct uldrevin_scan, gates), 2, 2},
+    {"first", offsetof(struct uldrevin_scan, first), 3, 3},
+    {"spacing", offsetof(struct uldrevin_scan, spacing), 3, 3},
+    {"kind", offsetof(struct uldrevin_scan, grid.kind), 5, 5},
+    {"x", offsetof(struct uldrevin_scan, grid.x), 5, 5},
+    {"y", offsetof(struct uldrevin_scan, grid.y), 5, 5},
+    {"side", offsetof(struct uldrevin_scan, grid.side), 5, 0},
+    {"columns", offsetof(struct uldrevin_scan, grid.columns), 5, 5},
+    {"rows", offsetof(struct uldrevin_scan, grid.rows), 5, 5},
+    {"weighting", offsetof(struct uldrevin_scan, weighting), 0, 0},
+};
+
+/* The numbers follow each other, 64 bits each, in a scan and in the site and the grid alone. */
+static void layout(void)
+{
+    for (size_t k = 0; k < LENGTH(numbers); k++)
+        check(with("place of", numbers[k].name, (int64_t)k), numbers[k].place == k * sizeof(int64_t));
+    check("size of a scan", sizeof(struct uldrevin_scan) == LENGTH(numbers) * sizeof(int64_t));
+    check("size of a site", sizeof(struct uldrevin_site) == 2 * sizeof(int64_t));
+    check("longitude in a site", offsetof(struct uldrevin_site, longitude) == sizeof(int64_t));
+    check("size of a grid", sizeof(struct uldrevin_grid) == 6 * sizeof(int64_t));
+    const size_t grid = offsetof(struct uldrevin_scan, grid);
+    check("kind in a grid", offsetof(struct uldrevin_grid, kind) == offsetof(struct uldrevin_scan, grid.kind) - grid);
+    check("x in a grid", offsetof(struct uldrevin_grid, x) == offsetof(struct uldrevin_scan, grid.x) - grid);
+    check("y in a grid", offsetof(struct uldrevin_grid, y) == offsetof(struct uldrevin_scan, grid.y) - grid);
+    check("side in a grid", offsetof(struct uldrevin_grid, side) == offsetof(struct uldrevin_scan, grid.side) - grid);
+    check("columns in a grid", offsetof(struct uldrevin_grid, columns) == offsetof(struct uldrevin_scan, grid.columns) - grid);
+    check("rows in a grid", offsetof(struct uldrevin_grid, rows) == offsetof(struct uldrevin_scan, grid.rows) - grid);
+}
+
+/* A record whose thirteen numbers all differ, and its head. */
+static const uint8_t differing[89] = {
+    1, 0, 8,  0x00, 0x07, 0xC8, 0x30, 0x00, 0x01, 0x86, 0xA2,
+    2, 0, 12, 0, 3, 0, 2, 0x00, 0x00, 0xC3, 0x50, 0x00, 0x01, 0x86, 0xA1,
+    3, 0, 17, 1, 0xFC, 0xE1, 0x42, 0x94, 0xE4, 0x3B, 0x78, 0xEA, 0x00, 0x01, 0x86, 0xA0, 0x03, 0x84, 0x03, 0x85,
+    4, 0, 1,  0,
+    5, 0, 12, 0, 0, 0, 4, 0, 0, 0, 5, 0, 0, 0, 6,
+    6, 0, 12, 0, 7, 0, 8, 0, 9, 0, 10, 0, 11, 0, 12,
+    7, 0, 6,  13, 14, 15, 16, 17, 18};
+static const struct uldrevin_scan differing_head = {
+    .site = {.latitude = 510000, .longitude = 100002},
+    .rays = 3,
+    .gates = 2,
+    .first = 50000,
+    .spacing = 100001,
+    .grid = {ULDREVIN_KIND_RADOLAN, .x = -52346220, .y = -465864470, .side = 100000, .columns = 900, .rows = 901},
+    .weighting = 0,
+};
+
+/* Each number of the record comes to its own name and goes back from there, and nothing is written beside the struct. */
+static void named_numbers(void)
+{
+    struct {
+        int64_t before;
+        struct uldrevin_scan head;
+        int64_t after;
+    } lent = {.before = 5, .after = 6};
+    struct uldrevin_scan *head = &lent.head;
+    uint32_t azimuth[3];
+    uint16_t value[6];
+    uint8_t quality[6], record[sizeof differing] = {0};
+    uint64_t length = 0;
+    check("different numbers", uldrevin_record_head(differing, sizeof differing, head) == 0 && same_scan(head, &differing_head));
+    memset(head, 0, sizeof *head);
+    check("different numbers read", uldrevin_record_read(differing, sizeof differing, head, azimuth, 3, value, 6, quality, 6) == 0);
+    check("head of different numbers", same_scan(head, &differing_head));
+    check("beside the head", lent.before == 5 && lent.after == 6);
+    check("different numbers written",
+          uldrevin_record_write(head, azimuth, 3, value, 6, quality, 6, record, sizeof record, &length) == 0);
+    check("bytes of different numbers", length == sizeof differing && memcmp(record, differing, sizeof record) == 0);
+}
+
+/* ---- the structs: every number has an answer */
+
+static void check_call(const char *call, const char *what, int holds)
+{
+    char both[100];
+    snprintf(both, sizeof both, "%s: %s", call, what);
+    check(both, holds);
+}
+
+/* Every call that takes the scan refuses it by the rule and leaves all that is lent. The rules 4 and 5 are those of site and grid. */
+static void refused(const char *what, const struct uldrevin_scan *scan, uint32_t rule)
+{
+    const struct uldrevin_scan given = *scan;
+    const struct lists held = held_lists();
+    const struct buffer unwritten = held_buffer();
+    struct lists l = held;
+    struct buffer b = unwritten;
+    struct place p;
+    check_call("remap", what, remap(scan, &l) == rule && same_lists(&l, &held));
+    check_call("write", what, write_record(scan, &b) == rule && same_buffer(&b, &unwritten));
+    if (rule == 4 || rule == 5)
+        check_call("place", what, place(&scan->site, &scan->grid, 0, 0, &p) == rule && same_place(p, before));
+    check_call("scan untouched", what, same_scan(scan, &given));
+}
+
+/* One number of a good scan is another: 32 bits do not hold it but the low 32 are good, it is lower than any allowed, or it is an end. */
+static void wrong_number(const char *kind, const struct uldrevin_scan *good, const struct number *number, uint32_t rule)
+{
+    int64_t right;
+    memcpy(&right, (const char *)good + number->place, sizeof right);
+    const int64_t wrong[] = {right + BEYOND, right - BEYOND, -2000000001, INT64_MIN, INT64_MAX};
+    for (size_t k = 0; k < LENGTH(wrong); k++) {
+        struct uldrevin_scan scan = *good;
+        memcpy((char *)&scan + number->place, &wrong[k], sizeof wrong[k]);
+        refused(with(kind, number->name, wrong[k]), &scan, rule);
+    }
+}
+
+static void wrong_numbers(void)
+{
+    for (size_t k = 0; k < LENGTH(numbers); k++) {
+        if (numbers[k].radolan_rule != 0)
+            wrong_number("RADOLAN", &radolan, &numbers[k], numbers[k].radolan_rule);
+        if (numbers[k].hrap_rule != 0)
+            wrong_number("HRAP", &hrap, &numbers[k], numbers[k].hrap_rule);
+    }
+}
+
+static void wrong_kinds(void)
+{
+    static const int64_t wrong[] = {0, 3, -1, BEYOND + ULDREVIN_KIND_RADOLAN, BEYOND + ULDREVIN_KIND_HRAP, INT64_MIN};
+    for (size_t k = 0; k < LENGTH(wrong); k++) {
+        struct uldrevin_scan like_radolan = radolan, like_hrap = hrap;
+        like_radolan.grid.kind = like_hrap.grid.kind = wrong[k];
+        refused(with("RADOLAN", "kind", wrong[k]), &like_radolan, 5);
+        refused(with("HRAP", "kind", wrong[k]), &like_hrap, 5);
+    }
+}
+
+/* Both scans give the same cells and the same record. */
+static void same_answers(const char *what, const struct uldrevin_scan *one, const struct uldrevin_scan *other)
+{
+    struct lists l = held_lists(), expected_lists = l;
+    struct buffer b = held_buffer(), expected_buffer = b;
+    check_call("remap", what, remap(one, &l) == 0 && remap(other, &expected_lists) == 0 && same_lists(&l, &expected_lists));
+    check_call("write", what,
+               write_record(one, &b) == 0 && write_record(other, &expected_buffer) == 0 && same_buffer(&b, &expected_buffer));
+}
+
+/* Any weighting but 0 is by quality. */
+static void weightings(void)
+{
+    static const int64_t by_quality[] = {-1, 2, BEYOND, INT64_MIN, INT64_MAX};
+    struct uldrevin_scan weighted = radolan;
+    weighted.weighting = 1;
+    for (size_t k = 0; k < LENGTH(by_quality); k++) {
+        struct uldrevin_scan on_hrap = hrap, on_radolan = radolan;
+        on_hrap.weighting = on_radolan.weighting = by_quality[k];
+        same_answers(with("HRAP", "weighting", by_quality[k]), &on_hrap, &hrap);
+        same_answers(with("RADOLAN", "weighting", by_quality[k]), &on_radolan, &weighted);
+    }
+}
+
+/* The side of an HRAP grid plays no part. */
+static void hrap_sides(void)
+{
+    static const int64_t sides[] = {0, 1, -1, BEYOND, BEYOND + 476250, INT64_MIN, INT64_MAX};
+    struct place expected, p;
+    check("gate of the example", place(&hrap.site, &hrap.grid, 0, 0, &expected) == 0 && expected.cell == 1);
+    for (size_t k = 0; k < LENGTH(sides); k++) {
+        struct uldrevin_scan scan = hrap;
+        const char *what = with("HRAP", "side", sides[k]);
+        scan.grid.side = sides[k];
+        same_answers(what, &scan, &hrap);
+        check_call("place", what, place(&scan.site, &scan.grid, 0, 0, &p) == 0 && same_place(p, expected));
+    }
 }
 
 int main(void)
 {
     sines();
     gates();
+    far_gates();
     scans();
     records_written();
     records_read();
     fields();
     damaged();
+    layout();
+    named_numbers();
+    wrong_numbers();
+    wrong_kinds();
+    weightings();
+    hrap_sides();
     printf("%u checks, %u differences\n", checks, differences);
     return differences != 0;
 }

@@ -36,11 +36,24 @@ def lending(held):
     return (HELD[held.typecode] * length).from_buffer(held, MARGIN * held.itemsize), length
 
 
+def lending_all(lists):
+    return [part for held in lists for part in lending(held)]
+
+
+def given_lists(scan):
+    return [with_margins(letter, getattr(scan, name)) for name, letter in GIVEN.items()]
+
+
 def filled_with(before, numbers):
     """What a lent list holds, margins and all, once these numbers are written from its start."""
     end = MARGIN + len(numbers)
     return before[:MARGIN] + array(before.typecode, numbers) + before[end:]
 
 
-# Anything but 0 means by quality.
-BY_QUALITY = cycle((1, 2, 256, 65_536, 2**31, 2**32 - 1))
+def changed_lines(names, given, before):
+    """Where lists and structs that are given do not hold the bytes that they held before."""
+    return [
+        f"{name}, which is only to be read, has been changed"
+        for name, held, old in zip(names, given, before)
+        if bytes(held) != old
+    ]

@@ -1,39 +1,55 @@
-"""The compiled library, target/libuldrevin.so, which `make library` builds from the proved archive."""
-import ctypes
+"""The compiled library, target/libuldrevin.so, which `make library` builds from the proved archive: its structs and functions."""
+from ctypes import CDLL, POINTER, Structure, c_int64, c_size_t, c_uint8, c_uint16, c_uint32, c_uint64
 from pathlib import Path
 
 PATH = Path(__file__).resolve().parent.parent / "target" / "libuldrevin.so"
 
 
+class Site(Structure):
+    _fields_ = [("latitude", c_int64), ("longitude", c_int64)]
+
+
+class Grid(Structure):
+    _fields_ = [(name, c_int64) for name in ("kind", "x", "y", "side", "columns", "rows")]
+
+
+class Scan(Structure):
+    _fields_ = [
+        ("site", Site),
+        *((name, c_int64) for name in ("rays", "gates", "first", "spacing")),
+        ("grid", Grid),
+        ("weighting", c_int64),
+    ]
+
+
+def one_list(held):
+    """A list is lent as a pointer and a length."""
+    return [POINTER(held), c_size_t]
+
+
+SITE, GRID, SCAN = map(POINTER, (Site, Grid, Scan))
+GATE = [POINTER(c_uint32), POINTER(c_int64), POINTER(c_int64)]  # cell, x and y
+GIVEN = [*one_list(c_uint32), *one_list(c_uint16), *one_list(c_uint8)]
+CELLS = [part for held in (c_uint32, c_uint32, c_uint64, c_uint16, c_uint8) for part in one_list(held)]
+BYTES = one_list(c_uint8)
+LENGTH = POINTER(c_uint64)
+
+# What each function but the sine and the cosine is called with. It answers with a refusal number.
+ARGUMENTS = {
+    "uldrevin_place": [SITE, GRID, c_int64, c_int64, *GATE],
+    "uldrevin_remap": [SCAN, *GIVEN, *one_list(c_uint32), *CELLS],
+    "uldrevin_record_head": [*BYTES, SCAN],
+    "uldrevin_record_field": [*BYTES, c_uint32, LENGTH, LENGTH],
+    "uldrevin_record_read": [*BYTES, SCAN, *GIVEN],
+    "uldrevin_record_write": [SCAN, *GIVEN, *BYTES, LENGTH],
+}
+
+
 def load():
-    library = ctypes.CDLL(str(PATH))
-    for name in ("uldrevin_sine", "uldrevin_cosine"):
+    library = CDLL(str(PATH))
+    for function in (library.uldrevin_sine, library.uldrevin_cosine):
+        function.argtypes, function.restype = [c_int64], c_int64
+    for name, arguments in ARGUMENTS.items():
         function = getattr(library, name)
-        function.argtypes = [ctypes.c_int64]
-        function.restype = ctypes.c_int64
-    for name, arguments in record_arguments().items():
-        function = getattr(library, name)
-        function.argtypes = arguments
-        function.restype = ctypes.c_uint32
+        function.argtypes, function.restype = arguments, c_uint32
     return library
-
-
-def record_arguments():
-    """What each function of the scan record is called with."""
-    signed, unsigned = ctypes.c_int64, ctypes.c_uint32
-    one_number = ctypes.POINTER(ctypes.c_uint64)
-    head = ctypes.POINTER(ctypes.c_int64)  # to 13 numbers
-    some_bytes, azimuths, values, qualities = (
-        [ctypes.POINTER(held), ctypes.c_size_t]
-        for held in (ctypes.c_uint8, ctypes.c_uint32, ctypes.c_uint16, ctypes.c_uint8)
-    )
-    lists = [*azimuths, *values, *qualities]
-    scan = [unsigned, unsigned, unsigned, unsigned, signed, signed]
-    radolan, hrap = [signed, signed, unsigned, unsigned, unsigned], [signed, signed, unsigned, unsigned]
-    return {
-        "uldrevin_record_head": [*some_bytes, head],
-        "uldrevin_record_field": [*some_bytes, unsigned, one_number, one_number],
-        "uldrevin_record_read": [*some_bytes, head, *lists],
-        "uldrevin_record_write_radolan": [*scan, *radolan, unsigned, *lists, *some_bytes, one_number],
-        "uldrevin_record_write_hrap": [*scan, *hrap, unsigned, *lists, *some_bytes, one_number],
-    }

@@ -290,20 +290,50 @@ def fields(checks):
     checks.raised(TypeError, "", "a number as record", lambda: uldrevin.read_record(61))
 
 
-# What the library is not asked.
+# Numbers that 64 bits hold are all asked of the library, others are not.
+
+
+def numbers_of_64_bits(checks):
+    wrong = [
+        (3, {"first": -1}),
+        (3, {"first": -(2**63)}),
+        (3, {"spacing": 2**32 + 100_000}),
+        (3, {"spacing": 2**63 - 1}),
+        (4, {"site": Site(2**63 - 1, 0)}),
+        (4, {"site": Site(600_000, -(2**63))}),
+        (5, {"grid": Hrap(2**32 + 400, 932, 2, 1)}),
+        (5, {"grid": Hrap(400, -(2**63), 2, 1)}),
+        (5, {"grid": Hrap(400, 932, -1, 1)}),
+        (5, {"grid": Hrap(400, 932, 2, 2**32 + 1)}),
+        (5, {"grid": RASTER._replace(x=2**63 - 1)}),
+        (5, {"grid": RASTER._replace(y=2**32)}),
+        (5, {"grid": RASTER._replace(side=-1)}),
+        (5, {"grid": RASTER._replace(side=2**32 + 100_000)}),
+    ]
+    for number, change in wrong:
+        scan = EXAMPLE._replace(**change)
+        checks.refused(number, f"remap with {change}", lambda: uldrevin.remap(*scan))
+        checks.refused(number, f"write_record with {change}", lambda: uldrevin.write_record(*scan))
+    site, grid = EXAMPLE.site, EXAMPLE.grid
+    for far in (-1, 2**32, -(2**63), 2**63 - 1):
+        checks.refused(7, f"azimuth {far}", lambda: uldrevin.place(site, grid, far, 0))
+        checks.refused(3, f"range {far}", lambda: uldrevin.place(site, grid, 0, far))
+        by_quality = EXAMPLE._replace(weighting=far)
+        checks.equal(f"value sums with weighting {far}", flat(uldrevin.remap(*by_quality).value_sums), [0, 1 * 90 + 7 * 10])
+        checks.equal(f"a record with weighting {far}", uldrevin.write_record(*by_quality), uldrevin.write_record(*EXAMPLE))
 
 
 def numbers_not_held(checks):
     wrong = {
         "latitude is 1180591620717411303424": {"site": Site(2**70, 0)},
         "longitude is -9223372036854775809": {"site": Site(600_000, -(2**63) - 1)},
-        "columns is -1": {"grid": Hrap(400, 932, -1, 1)},
-        "rows is 4294967297": {"grid": Hrap(400, 932, 2, 2**32 + 1)},
+        "columns is 18446744073709551618": {"grid": Hrap(400, 932, 2**64 + 2, 1)},
+        "rows is -18446744073709551615": {"grid": Hrap(400, 932, 2, 1 - 2**64)},
         "i is 9223372036854775808": {"grid": Hrap(2**63, 932, 2, 1)},
-        "side is -1": {"grid": RASTER._replace(side=-1)},
-        "first is -1": {"first": -1},
-        "spacing is 4295067296": {"spacing": 2**32 + 100_000},
-        "weighting is 4294967296": {"weighting": 2**32},
+        "side is 18446744073709651616": {"grid": RASTER._replace(side=2**64 + 100_000)},
+        "first is 18446744073709551616": {"first": 2**64},
+        "spacing is 18446744073709651616": {"spacing": 2**64 + 100_000},
+        "weighting is 18446744073709551616": {"weighting": 2**64},
         "azimuths holds -1 at place 0": {"azimuths": [-1]},
         "values holds 65536 at place 1": {"values": [1, 65_536]},
         "qualities holds 256 at place 0": {"qualities": array("q", [256, 10])},
@@ -313,8 +343,8 @@ def numbers_not_held(checks):
         checks.raised(ValueError, words, f"remap with {change}", lambda: uldrevin.remap(*scan))
         checks.raised(ValueError, words, f"write_record with {change}", lambda: uldrevin.write_record(*scan))
     site, grid = EXAMPLE.site, EXAMPLE.grid
-    checks.raised(ValueError, "azimuth is -1", "azimuth -1", lambda: uldrevin.place(site, grid, -1, 0))
-    checks.raised(ValueError, "range is 4294967296", "range 2^32", lambda: uldrevin.place(site, grid, 0, 2**32))
+    checks.raised(ValueError, "azimuth is -18446744073709551616", "azimuth -2^64", lambda: uldrevin.place(site, grid, -(2**64), 0))
+    checks.raised(ValueError, "range is 9223372036854775808", "range 2^63", lambda: uldrevin.place(site, grid, 0, 2**63))
 
 
 def lists_not_taken(checks):
@@ -339,7 +369,6 @@ def arrays_not_taken(checks):
         (ValueError, "azimuths must have a shape (rays,)", {"azimuths": numpy.array([[0]], "uint32")}),
         (ValueError, "values must have a shape (rays, gates)", {"values": numpy.array([1, 7], "uint16")}),
         (ValueError, "qualities must have a shape (rays, gates)", {"qualities": numpy.array([[[90, 10]]], "uint8")}),
-        (ValueError, "rays is 4294967296", {"values": numpy.zeros((2**32, 0), "uint16")}),
     ]
     turned = {"values": numpy.array([[1, 7]], "uint16"), "qualities": numpy.array([[90], [10]], "uint8")}
     for kind, words, change in [*wrong, (ValueError, "values have the shape (1, 2) and qualities (2, 1)", turned)]:
@@ -347,6 +376,8 @@ def arrays_not_taken(checks):
         checks.raised(kind, words, f"remap with {change}", lambda: uldrevin.remap(*scan))
     two_rays = EXAMPLE._replace(values=numpy.ones((2, 2), "uint16"), qualities=numpy.ones((2, 2), "uint8"))
     checks.refused(6, "two rays with one azimuth", lambda: uldrevin.remap(*two_rays))
+    many_rays = EXAMPLE._replace(values=numpy.zeros((2**32, 0), "uint16"))
+    checks.refused(1, "2^32 rays of no gates", lambda: uldrevin.remap(*many_rays))
 
 
 # Where the library is.
@@ -371,7 +402,7 @@ def main():
     checks = Checks()
     for part in (gates, angles, scans, forms_of_lists, kinds_of_lists, scan_refusals, record_refusals, refusal_itself):
         part(checks)
-    for part in (records, fields, numbers_not_held, lists_not_taken, libraries):
+    for part in (records, fields, numbers_of_64_bits, numbers_not_held, lists_not_taken, libraries):
         part(checks)
     if numpy is not None:
         arrays_not_taken(checks)

@@ -1,12 +1,13 @@
 """The library's calls for scan records, each against the second program's answer, as lists of differences."""
-from ctypes import byref, c_uint64
+from ctypes import byref, c_int64, c_uint64, sizeof
 from itertools import cycle
 
-from lent_lists import BY_QUALITY, GIVEN, earlier, filled_with, lending, with_margins
+from lent_lists import GIVEN, changed_lines, earlier, filled_with, given_lists, lending, lending_all
+from lent_structs import scan_struct, within
+from library import Scan
 from second_program import record
-from second_program.placement import Radolan
 
-HEAD = 13  # numbers
+HEAD = sizeof(Scan) // sizeof(c_int64)  # numbers
 UNTOUCHED = 0xA5A5_5A5A_C3C3_3C3C  # what a lent number holds before a call
 SHOWN = 5  # numbers printed of one list
 
@@ -39,14 +40,6 @@ def list_lines(name, before, after, numbers):
     return [f"{name}, with its margin, goes on from {start} as {got} in the library and as {other} {says}"]
 
 
-def changed_lines(names, lists, before):
-    return [
-        f"{name}, which is only to be read, has been changed"
-        for name, held, old in zip(names, lists, before)
-        if held != old
-    ]
-
-
 # Reading. The record is held with margins.
 
 
@@ -54,8 +47,7 @@ def head_lines(compiled, held, expected):
     """The call for the head."""
     head = earlier("q", HEAD)
     before = head[:]
-    pointer, _ = lending(head)
-    number = compiled.uldrevin_record_head(*lending(held), pointer)
+    number = compiled.uldrevin_record_head(*lending(held), within(head))
     wanted = None if refused(expected) else expected[1].values()
     lines = answered(number, number_of(expected)) + list_lines("head", before, head, wanted)
     return [f"call for the head: {line}" for line in lines]
@@ -82,9 +74,8 @@ def read_lines(compiled, held, data, lengths):
     expected = record.read_record(data, lengths)
     lists = [earlier(letter, length) for letter, length in zip(("q", *GIVEN.values()), (HEAD, *lengths))]
     before = [lent[:] for lent in lists]
-    pointer, _ = lending(lists[0])
-    arguments = [part for lent in lists[1:] for part in lending(lent)]
-    number = compiled.uldrevin_record_read(*lending(held), pointer, *arguments)
+    head, *others = lists
+    number = compiled.uldrevin_record_read(*lending(held), within(head), *lending_all(others))
     lines = answered(number, number_of(expected))
     wanted = [None] * 4 if refused(expected) else [expected[1].values(), *expected[2:]]
     for name, *of_list in zip(("head", *GIVEN), before, lists, wanted):
@@ -98,20 +89,12 @@ def read_lines(compiled, held, data, lengths):
 def write_lines(compiled, scan, room):
     """The call that writes a scan into a buffer of this room."""
     expected = record.write_record(scan, room)
-    kind = "radolan" if isinstance(scan.grid, Radolan) else "hrap"
-    function = getattr(compiled, f"uldrevin_record_write_{kind}")
-    given = [with_margins(letter, getattr(scan, name)) for name, letter in GIVEN.items()]
-    given_before = [held[:] for held in given]
+    head, lists = scan_struct(scan), given_lists(scan)
+    given_before = [bytes(given) for given in (head, *lists)]
     buffer, length = earlier("B", room), c_uint64(UNTOUCHED)
     before = buffer[:]
-    number = function(
-        *(scan.rays, scan.gates, scan.first, scan.spacing, scan.latitude, scan.longitude),
-        *scan.grid,
-        next(BY_QUALITY) if scan.by_quality else 0,
-        *(part for held in (*given, buffer) for part in lending(held)),
-        byref(length),
-    )
-    lines = answered(number, number_of(expected)) + changed_lines(GIVEN, given, given_before)
+    number = compiled.uldrevin_record_write(head, *lending_all([*lists, buffer]), byref(length))
+    lines = answered(number, number_of(expected)) + changed_lines(["scan", *GIVEN], [head, *lists], given_before)
     wanted = UNTOUCHED if refused(expected) else len(expected)
     if length.value != wanted:
         lines.append(f"the length is {length.value} in the library and {wanted} by the rule")

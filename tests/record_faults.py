@@ -6,7 +6,7 @@ from typing import Callable, NamedTuple
 
 from second_program import record
 from second_program.placement import Hrap
-from wrong_scans import Change, apply
+from wrong_scans import NUMBER_OF, Change, apply
 
 # A record in pieces.
 
@@ -123,9 +123,6 @@ def wrong_numbers(scan):
         yield from ((name, end) for name in ("x", "y") for end in (-2_000_000_001, 2_000_000_001))
         yield from (("side", 9_999), ("side", 10_000_001))
     yield from (("columns", 0), ("columns", 1_501), ("rows", 0), ("rows", 1_501))
-
-
-NUMBER_OF = {"rays": 1, "gates": 2, "first": 3, "spacing": 3, "latitude": 4, "longitude": 4}  # all others are 5
 
 
 def scan_faults(scan):

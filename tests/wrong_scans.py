@@ -2,7 +2,9 @@
 from itertools import combinations, cycle, product
 from typing import NamedTuple
 
-from second_program.placement import Hrap, Radolan
+from far_numbers import FAR, far_from
+from second_program.placement import Hrap, OtherKind, Radolan
+from second_program.record import grid_numbers
 from second_program.scan import Lent, Scan
 
 GIVEN = ("azimuths", "values", "qualities")
@@ -26,18 +28,24 @@ def named(name, *values):
     return [{name: value} for value in values]
 
 
-FAR = (-(2**63), 2**63 - 1)
+# The refusal number for each number of a scan's head; all others are 5.
+NUMBER_OF = {"rays": 1, "gates": 2, "first": 3, "spacing": 3, "latitude": 4, "longitude": 4}
 EMPTY = -(2**20)  # more than any list of a good scan is long
 LISTS = (*GIVEN, *Lent._fields)
 CELL_LISTS = Lent._fields[1:]
+WRONG_LISTS = (
+    Change(6, {}, {"values": 1}, {}),
+    Change(7, {}, {}, {"azimuths": (999, 3_600_000)}),
+    Change(8, {}, {}, {"qualities": (999, 101)}),
+)
 
 
 def scan_changes():
-    yield from number_changes(1, named("rays", 1, 720), named("rays", 0, 721, 2**16 + 3, 2**31 + 3, 2**32 - 1))
+    yield from number_changes(1, named("rays", 1, 720), named("rays", -1, 0, 721, 2**16 + 3, 2**31 + 3, 2**32 - 1))
     yield from number_changes(
         2,
         named("gates", 1, 5) + [{"gates": 1_000, "spacing": 1}],
-        named("gates", 0) + [{"gates": 1_001, "spacing": 1}] + named("gates", 2**16 + 5, 2**31 + 5, 2**32 - 1),
+        named("gates", -1, 0) + [{"gates": 1_001, "spacing": 1}] + named("gates", 2**16 + 5, 2**31 + 5, 2**32 - 1),
     )
     # The good scans have 5 gates with a spacing of 100,000.
     yield from number_changes(
@@ -51,8 +59,8 @@ def scan_changes():
             {"first": 46_000_000, "spacing": 1_000_000, "gates": 1},
         ],
         [
-            *named("first", 45_600_001, 46_000_000, 46_000_001, 2**31, 2**32 - 400_000, 2**32 - 1),
-            *named("spacing", 0, 1_000_001, 2**30, 2**31, 2**32 - 1),
+            *named("first", -1, 45_600_001, 46_000_000, 46_000_001, 2**31, 2**32 - 400_000, 2**32 - 1),
+            *named("spacing", -1, 0, 1_000_001, 2**30, 2**31, 2**32 - 1),
             {"first": 46_000_001, "gates": 1},
             {"spacing": 0, "gates": 1},
             {"spacing": 1_000_001, "gates": 1},
@@ -68,7 +76,8 @@ def scan_changes():
         + named("longitude", -1_800_001, 1_800_001, -3_600_000, 2**32, *FAR),
     )
     for name in ("columns", "rows"):
-        yield from number_changes(5, named(name, 1, 1_500), named(name, 0, 1_501, 2**16 + 1, 2**31, 2**32 - 1))
+        yield from number_changes(5, named(name, 1, 1_500), named(name, -1, 0, 1_501, 2**16 + 1, 2**31, 2**32 - 1))
+    yield from number_changes(5, [], named("kind", -1, 0, 3, 2**8 + 1, 2**16 + 2, 2**31, 2**32 - 1))
     for name, step in product(LISTS, (-1, 1, 3, EMPTY)):
         yield Change(6, {}, {name: step}, {})
     yield Change(6, {}, {"values": 1, "qualities": -1}, {})
@@ -92,7 +101,7 @@ def radolan_changes():
     for name in ("x", "y"):
         ends = (-2_000_000_000, 2_000_000_000)
         yield from number_changes(5, named(name, *ends), named(name, ends[0] - 1, ends[1] + 1, 2**32, *FAR))
-    yield from number_changes(5, named("side", 10_000, 10_000_000), named("side", 9_999, 10_000_001, 0, 1, 2**32 - 1))
+    yield from number_changes(5, named("side", 10_000, 10_000_000), named("side", 9_999, 10_000_001, -1, 0, 1, 2**32 - 1))
 
 
 def hrap_changes():
@@ -100,6 +109,13 @@ def hrap_changes():
         yield from number_changes(
             5, named(name, -10_000, 10_000), named(name, -10_001, 10_001, 2**16 + 1, 2**32 + 1, *FAR)
         )
+
+
+def far_changes(good):
+    """Each number of the head far beyond its limits. A weighting and the side of an HRAP grid have none."""
+    numbers = {name: getattr(good, name) for name in NUMBER_OF} | {"kind": good.grid.kind} | good.grid._asdict()
+    for name, number in numbers.items():
+        yield from number_changes(NUMBER_OF.get(name, 5), [], named(name, *far_from(number)))
 
 
 # 3 rays, 15 gates and 8 cells: no list has the length of another kind.
@@ -118,19 +134,34 @@ def resized(numbers, length):
     return [number for number, _ in zip(cycle(numbers), range(length))]
 
 
+def changed(scan, name, number):
+    """The scan with another number."""
+    if name in Scan._fields:
+        return scan._replace(**{name: number})
+    return scan._replace(grid=changed_grid(scan.grid, name, number))
+
+
+def changed_grid(grid, name, number):
+    if name == "kind":
+        return OtherKind(**grid_numbers(grid) | {"kind": number})
+    return grid._replace(**{name: number})
+
+
+def lendable(number, most, good):
+    """The number, or the good one where no list has this length or the list would be too long."""
+    return number if 0 <= number <= most else good
+
+
 def apply(good, changes):
-    """The changed scan and the lengths of its lists. Lengths are exact, but for lists longer than a good scan's can be."""
+    """The changed scan and the lengths of its lists. Lengths are exact, but for lists that cannot be lent."""
     scan = good
     for change in changes:
         for name, number in change.numbers.items():
-            if name in Scan._fields:
-                scan = scan._replace(**{name: number})
-            else:
-                scan = scan._replace(grid=scan.grid._replace(**{name: number}))
-    rays = scan.rays if scan.rays <= 721 else good.rays
-    gates = rays * (scan.gates if scan.gates <= 1_001 else good.gates)
-    columns, rows = (n if n <= 1_501 else 2 for n in (scan.grid.columns, scan.grid.rows))
-    lengths = dict(zip(LISTS, (rays, gates, gates, gates, *[columns * rows] * 5)))
+            scan = changed(scan, name, number)
+    rays = lendable(scan.rays, 721, good.rays)
+    gates = rays * lendable(scan.gates, 1_001, good.gates)
+    cells = lendable(scan.grid.columns, 1_501, good.grid.columns) * lendable(scan.grid.rows, 1_501, good.grid.rows)
+    lengths = dict(zip(LISTS, (rays, gates, gates, gates, *[cells] * 5)))
     for change in changes:
         for name, step in change.lengths.items():
             lengths[name] = max(0, lengths[name] + step)
@@ -164,6 +195,21 @@ def pairs():
         refused = [change for change in changes if change.number != 0]
         for one, other in combinations(refused, 2):
             if one.number != other.number and not touched(one) & touched(other):
+                yield good, [one, other]
+
+
+def far_numbers():
+    """Good scans with one number far beyond its limits."""
+    for good in (RADOLAN_SCAN, HRAP_SCAN):
+        for change in far_changes(good):
+            yield good, [change]
+
+
+def far_pairs():
+    """Good scans with two such numbers, or one and a wrong list, that are refused with different numbers."""
+    for good in (RADOLAN_SCAN, HRAP_SCAN):
+        for one, other in combinations([*far_changes(good), *WRONG_LISTS], 2):
+            if one.number != other.number:
                 yield good, [one, other]
 
 

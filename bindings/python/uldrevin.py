@@ -21,13 +21,13 @@ Lists that are given may be
 - plain lists or array.array of whole numbers; values and qualities either flat, ray by ray, with as many rays as azimuths, or a list
   of rays.
 
-A refusal of document 01 raises Refusal. Anything that the library could not be asked, such as a number that its type does not hold,
-raises ValueError or TypeError. The shared library is the file that the environment variable ULDREVIN_LIBRARY names, or else
-target/libuldrevin.so of the repository.
+A refusal of document 01 raises Refusal. Anything that the library could not be asked, such as a number beyond 64 bits, or one in a
+list that the list's type does not hold, raises ValueError or TypeError. The shared library is the file that the environment variable
+ULDREVIN_LIBRARY names, or else target/libuldrevin.so of the repository.
 """
 import os
 from array import array
-from ctypes import CDLL, POINTER, byref, c_int64, c_size_t, c_uint32, c_uint64, c_void_p
+from ctypes import CDLL, POINTER, Structure, c_int64, c_size_t, c_uint32, c_uint64, c_void_p
 from math import prod
 from operator import index
 from pathlib import Path
@@ -152,10 +152,25 @@ class Remapped(NamedTuple):
     cell_qualities: Any
 
 
-# The library. A list is lent as a pointer and a length.
+# The library. Site, grid and scan are lent as structs of 64-bit numbers, a list as a pointer and a length.
 
-_KINDS = {Radolan: "radolan", Hrap: "hrap"}
-_GRIDS = {"radolan": [c_int64, c_int64, c_uint32, c_uint32, c_uint32], "hrap": [c_int64, c_int64, c_uint32, c_uint32]}
+_RADOLAN, _HRAP = 1, 2  # kinds of grid
+
+
+def _fields(names):
+    return [(name, c_int64) for name in names.split()]
+
+
+class _Site(Structure):
+    _fields_ = _fields("latitude longitude")
+
+
+class _Grid(Structure):
+    _fields_ = _fields("kind x y side columns rows")  # for HRAP x and y are I and J, and the side plays no part
+
+
+class _Scan(Structure):
+    _fields_ = [("site", _Site), *_fields("rays gates first spacing"), ("grid", _Grid), *_fields("weighting")]
 
 
 def _load():
@@ -169,18 +184,15 @@ def _load():
 
 def _declare(library):
     one_list = [c_void_p, c_size_t]
-    head, place = POINTER(c_int64 * 13), POINTER(c_uint64)
+    site, grid, scan, length = map(POINTER, (_Site, _Grid, _Scan, c_uint64))
     arguments = {
-        "record_head": [*one_list, head],
-        "record_field": [*one_list, c_uint32, place, place],
-        "record_read": [*one_list, head, *one_list * 3],
+        "place": [site, grid, c_int64, c_int64, POINTER(c_uint32), POINTER(c_int64), POINTER(c_int64)],
+        "remap": [scan, *one_list * 9],
+        "record_head": [*one_list, scan],
+        "record_field": [*one_list, c_uint32, length, length],
+        "record_read": [*one_list, scan, *one_list * 3],
+        "record_write": [scan, *one_list * 4, length],
     }
-    for kind, grid in _GRIDS.items():
-        scan = [*[c_uint32] * 4, c_int64, c_int64, *grid, c_uint32, *one_list * 3]
-        gate = [POINTER(c_uint32), POINTER(c_int64), POINTER(c_int64)]
-        arguments[f"place_{kind}"] = [c_int64, c_int64, *grid, c_uint32, c_uint32, *gate]
-        arguments[f"remap_{kind}"] = [*scan, *one_list * 6]
-        arguments[f"record_write_{kind}"] = [*scan, *one_list, place]
     for name, types in arguments.items():
         function = getattr(library, f"uldrevin_{name}")
         function.argtypes, function.restype = types, c_uint32
@@ -192,36 +204,46 @@ def _declare(library):
 _library = _declare(_load())
 
 
-def _function(name, grid):
-    """The function for the grid's kind."""
-    if type(grid) not in _KINDS:
-        raise TypeError(f"the grid has to be a Radolan or an Hrap, and is {grid!r}")
-    return getattr(_library, f"uldrevin_{name}_{_KINDS[type(grid)]}")
-
-
 def _accept(number):
     if number != 0:
         raise Refusal(number)
 
 
-# Single numbers. ctypes would cut a number that its type does not hold, so they are tested here.
-
-_SIGNED = {"latitude", "longitude", "x", "y", "i", "j", "angle"}
+# Single numbers. ctypes would cut a number beyond 64 bits, so they are tested here. All others are left to the library's rules.
 
 
 def _number(name, number):
-    least, greatest = (-(2**63), 2**63 - 1) if name in _SIGNED else (0, 2**32 - 1)
     try:
         number = index(number)
     except TypeError:
         raise TypeError(f"{name} has to be a whole number, and is {number!r}") from None
-    if not least <= number <= greatest:
-        raise ValueError(f"{name} is {number}, and the library takes {least:,} to {greatest:,}")
+    if not -(2**63) <= number < 2**63:
+        raise ValueError(f"{name} is {number}, and the library takes {-(2**63):,} to {2**63 - 1:,}")
     return number
 
 
 def _numbers(**named):
     return [_number(name, number) for name, number in named.items()]
+
+
+def _site(site):
+    return _Site(*_numbers(**Site(*site)._asdict()))
+
+
+def _grid(grid):
+    if type(grid) not in (Radolan, Hrap):
+        raise TypeError(f"the grid has to be a Radolan or an Hrap, and is {grid!r}")
+    numbers = _numbers(**grid._asdict())
+    if type(grid) is Radolan:
+        return _Grid(_RADOLAN, *numbers)
+    i, j, columns, rows = numbers
+    return _Grid(_HRAP, i, j, 0, columns, rows)
+
+
+def _grid_read(grid):
+    if grid.kind == _RADOLAN:
+        return Radolan(grid.x, grid.y, grid.side, grid.columns, grid.rows)
+    return Hrap(grid.x, grid.y, grid.columns, grid.rows)
 
 
 # Lists. Their types go by the letters that array and numpy share: I, H, B and Q for 32, 16, 8 and 64 bits without a sign.
@@ -294,20 +316,16 @@ def _packed(name, letter, numbers):
 
 
 def _given(scan):
-    """The numbers of rays and gates, the numbers that the library takes, and the lists."""
+    """A scan as the library takes it: its numbers and its lists."""
     azimuths, _ = _held("azimuths", "I", scan.azimuths, 1)
     values, shape = _held("values", "H", scan.values, 2)
     qualities, other = _held("qualities", "B", scan.qualities, 2)
     if shape and other and shape != other:
         raise ValueError(f"values have the shape {shape} and qualities {other}; they must have the same")
     rays, gates = shape or other or (len(azimuths), len(values) // max(1, len(azimuths)))
-    numbers = [
-        *_numbers(rays=rays, gates=gates, first=scan.first, spacing=scan.spacing),
-        *_numbers(**Site(*scan.site)._asdict()),
-        *_numbers(**scan.grid._asdict()),
-        *_numbers(weighting=scan.weighting),
-    ]
-    return (rays, gates), numbers, [azimuths, values, qualities]
+    numbers = _numbers(rays=rays, gates=gates, first=scan.first, spacing=scan.spacing)
+    head = _Scan(_site(scan.site), *numbers, _grid(scan.grid), _number("weighting", scan.weighting))
+    return head, [azimuths, values, qualities]
 
 
 # What is public.
@@ -337,36 +355,33 @@ def place(site, grid, azimuth, range):
     Traceback (most recent call last):
     uldrevin.Refusal: refusal 7: an azimuth is over 3,599,999
     """
-    function = _function("place", grid)
-    numbers = _numbers(**Site(*site)._asdict(), **grid._asdict(), azimuth=azimuth, range=range)
+    numbers = _numbers(azimuth=azimuth, range=range)
     cell, x, y = c_uint32(), c_int64(), c_int64()
-    _accept(function(*numbers, byref(cell), byref(x), byref(y)))
+    _accept(_library.uldrevin_place(_site(site), _grid(grid), *numbers, cell, x, y))
     return Placement(x.value, y.value, None if cell.value == OUTSIDE else cell.value)
 
 
 def remap(site, grid, weighting, first, spacing, azimuths, values, qualities):
     """The ledger, the sums and the published cells of a scan; the module's text has an example. A weighting other than 0 is by quality."""
-    function = _function("remap", grid)
-    gates, numbers, lists = _given(Scan(site, grid, weighting, first, spacing, azimuths, values, qualities))
-    arguments = [*numbers, *_lent(lists)]
+    head, lists = _given(Scan(site, grid, weighting, first, spacing, azimuths, values, qualities))
+    arguments = [head, *_lent(lists)]
     # Asked with empty lists, the library refuses a wrong head by its number, before lists of its size are made.
-    number = function(*arguments, *_lent([array(letter) for letter in "IIIQHB"]))
+    number = _library.uldrevin_remap(*arguments, *_lent([array(letter) for letter in "IIIQHB"]))
     if number != LENGTH_NOT_EXACT:
         raise Refusal(number)
-    cells = (grid.rows, grid.columns)
-    remapped = Remapped(_new("I", gates), *(_new(letter, cells) for letter in "IIQHB"))
-    _accept(function(*arguments, *_lent(remapped)))
+    cells = (head.grid.rows, head.grid.columns)
+    remapped = Remapped(_new("I", (head.rays, head.gates)), *(_new(letter, cells) for letter in "IIQHB"))
+    _accept(_library.uldrevin_remap(*arguments, *_lent(remapped)))
     return remapped
 
 
 def record_head(data):
     """The numbers of a scan record."""
     data = bytes(memoryview(data).cast("B"))
-    numbers = (c_int64 * 13)()
-    _accept(_library.uldrevin_record_head(data, len(data), byref(numbers)))
-    latitude, longitude, rays, gates, first, spacing, kind, x, y, side, columns, rows, weighting = numbers
-    grid = Radolan(x, y, side, columns, rows) if kind == 1 else Hrap(x, y, columns, rows)
-    return ScanHead(Site(latitude, longitude), rays, gates, first, spacing, grid, weighting)
+    head = _Scan()
+    _accept(_library.uldrevin_record_head(data, len(data), head))
+    site = Site(head.site.latitude, head.site.longitude)
+    return ScanHead(site, head.rays, head.gates, head.first, head.spacing, _grid_read(head.grid), head.weighting)
 
 
 def record_field(data, number):
@@ -374,7 +389,7 @@ def record_field(data, number):
     part = memoryview(data).cast("B")
     asked = index(number) if 0 <= index(number) < 2**32 else 0  # 0 too is a number other than 1 to 7
     start, length = c_uint64(), c_uint64()
-    _accept(_library.uldrevin_record_field(bytes(part), len(part), asked, byref(start), byref(length)))
+    _accept(_library.uldrevin_record_field(bytes(part), len(part), asked, start, length))
     return part[start.value : start.value + length.value]
 
 
@@ -392,7 +407,7 @@ def read_record(data):
     head = record_head(data)
     gates = (head.rays, head.gates)
     lists = [_new("I", (head.rays,)), _new("H", gates), _new("B", gates)]
-    _accept(_library.uldrevin_record_read(data, len(data), byref((c_int64 * 13)()), *_lent(lists)))
+    _accept(_library.uldrevin_record_read(data, len(data), _Scan(), *_lent(lists)))
     return Scan(head.site, head.grid, head.weighting, head.first, head.spacing, *lists)
 
 
@@ -402,14 +417,14 @@ def write_record(site, grid, weighting, first, spacing, azimuths, values, qualit
     >>> len(write_record(Site(600_000, -1_050_000), Hrap(400, 932, 2, 1), PLAIN, 0, 100_000, [0], [1, 7], [90, 10]))
     61
     """
-    function = _function("record_write", grid)
-    (rays, gates), numbers, lists = _given(Scan(site, grid, weighting, first, spacing, azimuths, values, qualities))
-    arguments = [*numbers, *_lent(lists)]
+    head, lists = _given(Scan(site, grid, weighting, first, spacing, azimuths, values, qualities))
+    arguments = [head, *_lent(lists)]
     length = c_uint64()
-    number = function(*arguments, *_lent([array("B")]), byref(length))  # with no room, to be told of all else first
+    # With no room, to be told of all else first.
+    number = _library.uldrevin_record_write(*arguments, *_lent([array("B")]), length)
     if number != BUFFER_TOO_SHORT:
         raise Refusal(number)
     # Seven headers, then the contents, with the longer kind of grid.
-    buffer = array("B", bytes(7 * 3 + 8 + 12 + 17 + 1 + 4 * rays + 3 * rays * gates))
-    _accept(function(*arguments, *_lent([buffer]), byref(length)))
+    buffer = array("B", bytes(7 * 3 + 8 + 12 + 17 + 1 + 4 * head.rays + 3 * head.rays * head.gates))
+    _accept(_library.uldrevin_record_write(*arguments, *_lent([buffer]), length))
     return buffer[: length.value].tobytes()

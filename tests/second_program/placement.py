@@ -34,6 +34,7 @@ class Radolan(NamedTuple):
     columns: int
     rows: int
 
+    kind = 1
     sphere = Sphere(radius=637_004_000, meridian=100_000)
 
     @property
@@ -56,6 +57,7 @@ class Hrap(NamedTuple):
     columns: int
     rows: int
 
+    kind = 2
     sphere = Sphere(radius=637_120_000, meridian=-1_050_000)
     side = 476_250
 
@@ -70,6 +72,23 @@ class Hrap(NamedTuple):
             and 1 <= self.columns <= 1_500
             and 1 <= self.rows <= 1_500
         )
+
+
+class OtherKind(NamedTuple):
+    """A grid is one of two kinds. Of any other kind no numbers are right."""
+
+    kind: int
+    x: int
+    y: int
+    side: int
+    columns: int
+    rows: int
+
+    def allowed(self):
+        return False
+
+
+Grid = Radolan | Hrap | OtherKind
 
 
 class Reading(NamedTuple):

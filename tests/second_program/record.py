@@ -7,7 +7,7 @@ from second_program.placement import Hrap, Radolan
 from second_program.scan import Scan
 
 HEADER = 3  # a tag of one byte and a length of two
-KIND_OF_LENGTH = {17: 1, 9: 2}  # the grid's kind by the length of field 3
+GRID_OF_LENGTH = {17: Radolan, 9: Hrap}  # the grid by the length of field 3
 MOST_GATES = 32_767  # that can be written
 
 
@@ -68,10 +68,10 @@ def scan_and_places(data):
     latitude, longitude = map(signed, parts(fields.take(8), 4, 4))
     rays, gates, first, spacing = map(unsigned, parts(fields.take(12), 2, 2, 4, 4))
     content = fields.take(17, 9)
-    kind = content[0]
-    if kind != KIND_OF_LENGTH[len(content)]:
+    kind = GRID_OF_LENGTH[len(content)]
+    if content[0] != kind.kind:
         raise Refused(13)
-    if kind == 1:
+    if kind is Radolan:
         x, y, side, columns, rows = parts(content[1:], 4, 4, 4, 2, 2)
         grid = Radolan(signed(x), signed(y), unsigned(side), unsigned(columns), unsigned(rows))
     else:
@@ -89,10 +89,14 @@ def scan_and_places(data):
     return Scan(*numbers, azimuths, values, qualities), fields.places
 
 
+def grid_numbers(grid):
+    """The numbers of a grid by name; x and y are I and J for HRAP."""
+    x, y = (grid.i, grid.j) if isinstance(grid, Hrap) else (grid.x, grid.y)
+    return {"kind": grid.kind, "x": x, "y": y, "side": grid.side, "columns": grid.columns, "rows": grid.rows}
+
+
 def head_of(scan):
-    """The numbers of a scan by name, in the order of the call for the head; x and y are I and J for HRAP."""
-    grid = scan.grid
-    kind, x, y = (1, grid.x, grid.y) if isinstance(grid, Radolan) else (2, grid.i, grid.j)
+    """The numbers of a scan by name, in the order of the record."""
     return {
         "latitude": scan.latitude,
         "longitude": scan.longitude,
@@ -100,12 +104,7 @@ def head_of(scan):
         "gates": scan.gates,
         "first": scan.first,
         "spacing": scan.spacing,
-        "kind": kind,
-        "x": x,
-        "y": y,
-        "side": grid.side,
-        "columns": grid.columns,
-        "rows": grid.rows,
+        **grid_numbers(scan.grid),
         "weighting": int(scan.by_quality),
     }
 
@@ -153,8 +152,8 @@ def written_signed(width, *numbers):
 def grid_content(grid):
     if isinstance(grid, Radolan):
         corner = written_signed(4, grid.x, grid.y)
-        return written(1, 1) + corner + written(4, grid.side) + written(2, grid.columns, grid.rows)
-    return written(1, 2) + written_signed(2, grid.i, grid.j) + written(2, grid.columns, grid.rows)
+        return written(1, grid.kind) + corner + written(4, grid.side) + written(2, grid.columns, grid.rows)
+    return written(1, grid.kind) + written_signed(2, grid.i, grid.j) + written(2, grid.columns, grid.rows)
 
 
 def contents(scan):

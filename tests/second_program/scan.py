@@ -7,7 +7,7 @@ the site decides is worked once a scan, what the azimuth decides once a ray, and
 from typing import Any, NamedTuple, Sequence
 
 from second_program import placement
-from second_program.placement import FLOORED, OUTSIDE, Hrap, Radolan
+from second_program.placement import FLOORED, OUTSIDE, Grid
 
 NO_ECHO = 65_534  # measured, counts as 0
 NOT_MEASURED = 65_535
@@ -21,7 +21,7 @@ class Scan(NamedTuple):
     spacing: int
     latitude: int
     longitude: int
-    grid: Radolan | Hrap
+    grid: Grid
     by_quality: bool
     azimuths: Sequence[int]
     values: Sequence[int]

@@ -24,25 +24,20 @@ pub struct Placement {
 /// # Ok::<(), uldrevin::Refusal>(())
 /// ```
 pub fn place(site: Site, grid: Grid, azimuth: u32, range: u32) -> Result<Placement, Refusal> {
-    let Site {
-        latitude,
-        longitude,
-    } = site;
+    let (site, grid) = (site.into(), grid.into());
     let (mut cell, mut x, mut y) = (OUTSIDE, 0, 0);
-    // The pointers are to three numbers of this function.
-    let number = unsafe {
-        match grid {
-            Grid::Radolan(g) => exports::uldrevin_place_radolan(
-                latitude, longitude, g.x, g.y, g.side, g.columns, g.rows, azimuth, range,
-                &mut cell, &mut x, &mut y,
-            ),
-            Grid::Hrap(g) => exports::uldrevin_place_hrap(
-                latitude, longitude, g.i, g.j, g.columns, g.rows, azimuth, range, &mut cell,
-                &mut x, &mut y,
-            ),
-        }
-    };
-    done(number)?;
+    // The pointers are to two structs and three numbers of this function.
+    done(unsafe {
+        exports::uldrevin_place(
+            &site,
+            &grid,
+            azimuth.into(),
+            range.into(),
+            &mut cell,
+            &mut x,
+            &mut y,
+        )
+    })?;
     let cell = (cell != OUTSIDE).then_some(cell);
     Ok(Placement { x, y, cell })
 }

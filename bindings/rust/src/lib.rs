@@ -1,7 +1,7 @@
 //! Radar gates to cells of the HRAP mesh or the RADOLAN raster, and scan records, by the proved functions of Uldrevin.
 //!
 //! Angles are ten-thousandths of a degree, lengths are centimetres. No argument need be checked first: every call gives its result or
-//! a [`Refusal`] with its number, and a refusal leaves every lent list as it came in.
+//! a [`Refusal`] with its number, and a refusal leaves every lent list as it came in. [`exports`] has the functions as C has them.
 //!
 //! Two gates of one ray, weighted by quality, on a grid of two cells:
 //!
@@ -26,8 +26,9 @@
 //! # Ok::<(), uldrevin::Refusal>(())
 //! ```
 
-mod exports;
+pub mod exports;
 mod gate;
+mod numbers;
 mod record;
 mod refusal;
 mod scan;

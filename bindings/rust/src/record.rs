@@ -1,7 +1,9 @@
 //! The scan record, read and written. docs/RECORD.md has its bytes.
 
+use crate::exports::{self, ScanNumbers};
+use crate::numbers::head_of;
 use crate::refusal::done;
-use crate::{exports, GateLists, Grid, HrapGrid, RadolanGrid, Refusal, ScanHead, Site, Weighting};
+use crate::{GateLists, Refusal, ScanHead};
 
 /// A scan that was read from a record.
 #[derive(Clone, Debug, PartialEq, Eq)]
@@ -22,50 +24,10 @@ impl ScanRead {
     }
 }
 
-/// A head from the thirteen numbers of a record that was not refused; each of them is in the bounds of document 01.
-fn head_of(numbers: [i64; 13]) -> ScanHead {
-    let [latitude, longitude, rays, gates, first, spacing, kind, x, y, side, columns, rows, weighting] =
-        numbers;
-    let (columns, rows) = (columns as u32, rows as u32);
-    ScanHead {
-        site: Site {
-            latitude,
-            longitude,
-        },
-        rays: rays as u32,
-        gates: gates as u32,
-        first: first as u32,
-        spacing: spacing as u32,
-        grid: if kind == 1 {
-            let side = side as u32;
-            Grid::Radolan(RadolanGrid {
-                x,
-                y,
-                side,
-                columns,
-                rows,
-            })
-        } else {
-            let (i, j) = (x, y);
-            Grid::Hrap(HrapGrid {
-                i,
-                j,
-                columns,
-                rows,
-            })
-        },
-        weighting: if weighting == 0 {
-            Weighting::Plain
-        } else {
-            Weighting::ByQuality
-        },
-    }
-}
-
 /// The head of a record. It checks the whole record, but for lengths of lists.
 pub fn record_head(record: &[u8]) -> Result<ScanHead, Refusal> {
-    let mut numbers = [0; 13];
-    // The pointers are to the record, with its length, and to thirteen numbers of this function.
+    let mut numbers = ScanNumbers::default();
+    // The pointers are to the record, with its length, and to a struct of this function.
     done(unsafe { exports::uldrevin_record_head(record.as_ptr(), record.len(), &mut numbers) })?;
     Ok(head_of(numbers))
 }
@@ -148,7 +110,7 @@ pub fn read_record_into(
     values: &mut [u16],
     qualities: &mut [u8],
 ) -> Result<ScanHead, Refusal> {
-    let mut numbers = [0; 13];
+    let mut numbers = ScanNumbers::default();
     // Every pointer goes with the length of its own list, and no two of them overlap.
     done(unsafe {
         exports::uldrevin_record_read(
@@ -187,60 +149,22 @@ pub fn write_record_into(
     scan: GateLists,
     buffer: &mut [u8],
 ) -> Result<usize, Refusal> {
-    let Site {
-        latitude,
-        longitude,
-    } = head.site;
+    let numbers = head.into();
     let mut length = 0;
     // Every pointer goes with the length of its own list, and the buffer overlaps none of them.
     done(unsafe {
-        match head.grid {
-            Grid::Radolan(grid) => exports::uldrevin_record_write_radolan(
-                head.rays,
-                head.gates,
-                head.first,
-                head.spacing,
-                latitude,
-                longitude,
-                grid.x,
-                grid.y,
-                grid.side,
-                grid.columns,
-                grid.rows,
-                head.by_quality(),
-                scan.azimuths.as_ptr(),
-                scan.azimuths.len(),
-                scan.values.as_ptr(),
-                scan.values.len(),
-                scan.qualities.as_ptr(),
-                scan.qualities.len(),
-                buffer.as_mut_ptr(),
-                buffer.len(),
-                &mut length,
-            ),
-            Grid::Hrap(grid) => exports::uldrevin_record_write_hrap(
-                head.rays,
-                head.gates,
-                head.first,
-                head.spacing,
-                latitude,
-                longitude,
-                grid.i,
-                grid.j,
-                grid.columns,
-                grid.rows,
-                head.by_quality(),
-                scan.azimuths.as_ptr(),
-                scan.azimuths.len(),
-                scan.values.as_ptr(),
-                scan.values.len(),
-                scan.qualities.as_ptr(),
-                scan.qualities.len(),
-                buffer.as_mut_ptr(),
-                buffer.len(),
-                &mut length,
-            ),
-        }
+        exports::uldrevin_record_write(
+            &numbers,
+            scan.azimuths.as_ptr(),
+            scan.azimuths.len(),
+            scan.values.as_ptr(),
+            scan.values.len(),
+            scan.qualities.as_ptr(),
+            scan.qualities.len(),
+            buffer.as_mut_ptr(),
+            buffer.len(),
+            &mut length,
+        )
     })?;
     Ok(length as usize)
 }

@@ -34,13 +34,6 @@ impl ScanHead {
     pub fn all_cells(&self) -> usize {
         self.grid.columns() as usize * self.grid.rows() as usize
     }
-
-    pub(crate) fn by_quality(&self) -> u32 {
-        match self.weighting {
-            Weighting::Plain => 0,
-            Weighting::ByQuality => 1,
-        }
-    }
 }
 
 /// The lists of a scan: an azimuth a ray; a value and a quality a gate, ray by ray.
@@ -112,76 +105,29 @@ pub fn remap(head: ScanHead, scan: GateLists) -> Result<Remapped, Refusal> {
 
 /// Remaps a scan into lent lists. What they held before plays no part; after a refusal they hold it still.
 pub fn remap_into(head: ScanHead, scan: GateLists, lists: CellLists) -> Result<(), Refusal> {
-    let Site {
-        latitude,
-        longitude,
-    } = head.site;
+    let numbers = head.into();
     // Every pointer goes with the length of its own list, and no two lists of `lists` overlap.
     done(unsafe {
-        match head.grid {
-            Grid::Radolan(grid) => exports::uldrevin_remap_radolan(
-                head.rays,
-                head.gates,
-                head.first,
-                head.spacing,
-                latitude,
-                longitude,
-                grid.x,
-                grid.y,
-                grid.side,
-                grid.columns,
-                grid.rows,
-                head.by_quality(),
-                scan.azimuths.as_ptr(),
-                scan.azimuths.len(),
-                scan.values.as_ptr(),
-                scan.values.len(),
-                scan.qualities.as_ptr(),
-                scan.qualities.len(),
-                lists.ledger.as_mut_ptr(),
-                lists.ledger.len(),
-                lists.counts.as_mut_ptr(),
-                lists.counts.len(),
-                lists.quality_sums.as_mut_ptr(),
-                lists.quality_sums.len(),
-                lists.value_sums.as_mut_ptr(),
-                lists.value_sums.len(),
-                lists.means.as_mut_ptr(),
-                lists.means.len(),
-                lists.cell_qualities.as_mut_ptr(),
-                lists.cell_qualities.len(),
-            ),
-            Grid::Hrap(grid) => exports::uldrevin_remap_hrap(
-                head.rays,
-                head.gates,
-                head.first,
-                head.spacing,
-                latitude,
-                longitude,
-                grid.i,
-                grid.j,
-                grid.columns,
-                grid.rows,
-                head.by_quality(),
-                scan.azimuths.as_ptr(),
-                scan.azimuths.len(),
-                scan.values.as_ptr(),
-                scan.values.len(),
-                scan.qualities.as_ptr(),
-                scan.qualities.len(),
-                lists.ledger.as_mut_ptr(),
-                lists.ledger.len(),
-                lists.counts.as_mut_ptr(),
-                lists.counts.len(),
-                lists.quality_sums.as_mut_ptr(),
-                lists.quality_sums.len(),
-                lists.value_sums.as_mut_ptr(),
-                lists.value_sums.len(),
-                lists.means.as_mut_ptr(),
-                lists.means.len(),
-                lists.cell_qualities.as_mut_ptr(),
-                lists.cell_qualities.len(),
-            ),
-        }
+        exports::uldrevin_remap(
+            &numbers,
+            scan.azimuths.as_ptr(),
+            scan.azimuths.len(),
+            scan.values.as_ptr(),
+            scan.values.len(),
+            scan.qualities.as_ptr(),
+            scan.qualities.len(),
+            lists.ledger.as_mut_ptr(),
+            lists.ledger.len(),
+            lists.counts.as_mut_ptr(),
+            lists.counts.len(),
+            lists.quality_sums.as_mut_ptr(),
+            lists.quality_sums.len(),
+            lists.value_sums.as_mut_ptr(),
+            lists.value_sums.len(),
+            lists.means.as_mut_ptr(),
+            lists.means.len(),
+            lists.cell_qualities.as_mut_ptr(),
+            lists.cell_qualities.len(),
+        )
     })
 }

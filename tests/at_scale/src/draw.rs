@@ -2,10 +2,6 @@
 
 use std::ops::RangeInclusive;
 
-fn signed(range: RangeInclusive<u32>) -> RangeInclusive<i64> {
-    i64::from(*range.start())..=i64::from(*range.end())
-}
-
 /// The generator splitmix64.
 pub struct Draw {
     state: u64,
@@ -53,10 +49,6 @@ impl Draw {
         }
     }
 
-    pub fn good_u32(&mut self, range: RangeInclusive<u32>) -> u32 {
-        self.good(signed(range)) as u32
-    }
-
     /// A number of every size and sign alike, often 0, 1, -1, a power of two or its neighbour, or the type's limit.
     pub fn any(&mut self) -> i64 {
         let power = 1_i64 << self.below(63);
@@ -68,22 +60,25 @@ impl Draw {
         }
     }
 
-    /// A number that is mostly not of the range: just beyond, farther beyond, or any.
+    /// A number whose low 32 bits are those of a number of the range, and which is mostly not of the range.
+    fn good_in_32_bits(&mut self, range: RangeInclusive<i64>) -> i64 {
+        let any = self.bits() as i64;
+        let above = self.one_of(&[1, -1, any]);
+        self.good(range).wrapping_add(above << 32)
+    }
+
+    /// A number that is mostly not of the range: just beyond, farther beyond, the same in its low 32 bits, or any.
     pub fn wrong(&mut self, range: RangeInclusive<i64>) -> i64 {
-        let (least, most) = range.into_inner();
+        let (least, most) = (*range.start(), *range.end());
         let far = self.within(2..=1_000_000);
-        match self.below(5) {
+        match self.below(6) {
             0 => least - 1,
             1 => most + 1,
             2 => least - far,
             3 => most + far,
+            4 => self.good_in_32_bits(range),
             _ => self.any(),
         }
-    }
-
-    /// The same for a number that has no sign: what is below 0 becomes a number near the type's limit.
-    pub fn wrong_u32(&mut self, range: RangeInclusive<u32>) -> u32 {
-        self.wrong(signed(range)) as u32
     }
 
     /// A length that is mostly not `exact`.

@@ -1,14 +1,15 @@
 //! Single gates: answer, cell and position by the library and by the plain program.
 
+use crate::calls;
 use crate::draw::Draw;
-use crate::library::{from_placement, to_grid, to_site};
+use crate::handed_in::{grid_numbers, site_numbers, Named};
 use crate::outcome::{compare_answers, Outcome};
 use crate::sites_and_grids::{
     good_site, grid_anywhere, grid_kind, grid_near, position, range_at_mesh_line, spoil_grid,
-    spoil_site, GridKind,
+    spoil_site,
 };
 use plain_program::placement::{
-    place, Grid, HrapGrid, RadolanGrid, Site, FARTHEST, LAST_AZIMUTH, MOST_COLUMNS_OR_ROWS,
+    place, Grid, Site, AZIMUTHS, FARTHEST, HRAP_KIND, MOST_COLUMNS_OR_ROWS, RANGES,
 };
 use plain_program::sine::Tables;
 
@@ -16,22 +17,29 @@ use plain_program::sine::Tables;
 pub struct Case {
     site: Site,
     grid: Grid,
-    azimuth: u32,
-    range: u32,
+    azimuth: i64,
+    range: i64,
+}
+
+impl Case {
+    fn handed_in(&self) -> Vec<Named> {
+        let own = [("azimuth", self.azimuth), ("range", self.range)];
+        [&site_numbers(self.site)[..], &grid_numbers(self.grid), &own].concat()
+    }
 }
 
 /// Anywhere, at a limit, or at a multiple of a quarter or of a tenth of a degree.
-fn good_azimuth(draw: &mut Draw) -> u32 {
+fn good_azimuth(draw: &mut Draw) -> i64 {
     match draw.below(8) {
-        0 => (draw.below(4) * 900_000) as u32,
-        1 => (draw.below(3_600) * 1_000) as u32,
-        _ => draw.good_u32(0..=LAST_AZIMUTH),
+        0 => draw.within(0..=3) * 900_000,
+        1 => draw.within(0..=3_599) * 1_000,
+        _ => draw.good(AZIMUTHS),
     }
 }
 
 fn near_its_grid(draw: &mut Draw, tables: &Tables) -> Case {
     let (site, kind) = (good_site(draw), grid_kind(draw));
-    let (azimuth, range) = (good_azimuth(draw), draw.good_u32(0..=FARTHEST));
+    let (azimuth, range) = (good_azimuth(draw), draw.good(RANGES));
     let near = position(tables, kind, site, azimuth, range);
     Case {
         site,
@@ -44,12 +52,12 @@ fn near_its_grid(draw: &mut Draw, tables: &Tables) -> Case {
 /// A gate within a few centimetres of a line of the HRAP mesh.
 fn near_a_mesh_line(draw: &mut Draw, tables: &Tables) -> Case {
     let (site, azimuth) = (good_site(draw), good_azimuth(draw));
-    let crossed = i64::from(range_at_mesh_line(draw, tables, site, azimuth));
-    let range = (crossed + draw.within(-3..=3)).clamp(0, i64::from(FARTHEST)) as u32;
-    let near = position(tables, GridKind::Hrap, site, azimuth, range);
+    let crossed = range_at_mesh_line(draw, tables, site, azimuth);
+    let range = (crossed + draw.within(-3..=3)).clamp(0, FARTHEST);
+    let near = position(tables, HRAP_KIND, site, azimuth, range);
     Case {
         site,
-        grid: grid_near(draw, GridKind::Hrap, near, MOST_COLUMNS_OR_ROWS),
+        grid: grid_near(draw, HRAP_KIND, near, MOST_COLUMNS_OR_ROWS),
         azimuth,
         range,
     }
@@ -61,16 +69,16 @@ fn on_a_grid_anywhere(draw: &mut Draw) -> Case {
         site: good_site(draw),
         grid: grid_anywhere(draw, kind, MOST_COLUMNS_OR_ROWS),
         azimuth: good_azimuth(draw),
-        range: draw.good_u32(0..=FARTHEST),
+        range: draw.good(RANGES),
     }
 }
 
 fn spoil(draw: &mut Draw, case: &mut Case) {
     match draw.below(4) {
-        0 => case.range = draw.wrong_u32(0..=FARTHEST),
+        0 => case.range = draw.wrong(RANGES),
         1 => spoil_site(draw, &mut case.site),
         2 => spoil_grid(draw, &mut case.grid),
-        _ => case.azimuth = draw.wrong_u32(0..=LAST_AZIMUTH),
+        _ => case.azimuth = draw.wrong(AZIMUTHS),
     }
 }
 
@@ -83,33 +91,22 @@ fn spoiled(draw: &mut Draw, tables: &Tables) -> Case {
     case
 }
 
-fn any_grid(draw: &mut Draw) -> Grid {
-    match grid_kind(draw) {
-        GridKind::Radolan => Grid::Radolan(RadolanGrid {
-            x: draw.any(),
-            y: draw.any(),
-            side: draw.any() as u32,
-            columns: draw.any() as u32,
-            rows: draw.any() as u32,
-        }),
-        GridKind::Hrap => Grid::Hrap(HrapGrid {
-            i: draw.any(),
-            j: draw.any(),
-            columns: draw.any() as u32,
-            rows: draw.any() as u32,
-        }),
-    }
-}
-
 fn any_numbers(draw: &mut Draw) -> Case {
     Case {
         site: Site {
             latitude: draw.any(),
             longitude: draw.any(),
         },
-        grid: any_grid(draw),
-        azimuth: draw.any() as u32,
-        range: draw.any() as u32,
+        grid: Grid {
+            kind: draw.any(),
+            x: draw.any(),
+            y: draw.any(),
+            side: draw.any(),
+            columns: draw.any(),
+            rows: draw.any(),
+        },
+        azimuth: draw.any(),
+        range: draw.any(),
     }
 }
 
@@ -131,8 +128,7 @@ pub fn compare(case: &Case, tables: &Tables) -> Outcome {
         range,
     } = *case;
     let plain = place(tables, site, grid, azimuth, range);
-    let library = uldrevin::place(to_site(site), to_grid(grid), azimuth, range)
-        .map(from_placement)
-        .map_err(|refusal| refusal.number);
-    Outcome::new(&plain, 1, compare_answers("place", &library, &plain))
+    let library = calls::place(site, grid, azimuth, range);
+    let difference = compare_answers("place", &library, &plain);
+    Outcome::new(&plain, 1, case.handed_in(), difference)
 }

@@ -52,6 +52,7 @@ impl Kind {
         catch_unwind(|| self.compare(seed, tables)).unwrap_or_else(|_| Outcome {
             answer: 0,
             gates: 0,
+            handed_in: Vec::new(),
             difference: Some("a panic".to_string()),
         })
     }

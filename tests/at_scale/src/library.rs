@@ -1,7 +1,8 @@
-//! The library's types to the plain program's and back.
+//! The library's types to the plain program's and back. The plain program's numbers have 64 bits, and a type of the crate that does not
+//! hold them is not made.
 
-use plain_program::placement::{Grid, HrapGrid, Placement, RadolanGrid, Site};
-use plain_program::scan::{Head, Weighting};
+use plain_program::placement::{Grid, Placement, Site, HRAP_KIND, HRAP_SIDE, RADOLAN_KIND};
+use plain_program::scan::{Head, BY_QUALITY, PLAIN};
 
 pub fn to_site(site: Site) -> uldrevin::Site {
     uldrevin::Site {
@@ -17,68 +18,72 @@ fn from_site(site: uldrevin::Site) -> Site {
     }
 }
 
-pub fn to_grid(grid: Grid) -> uldrevin::Grid {
-    match grid {
-        Grid::Radolan(grid) => uldrevin::Grid::Radolan(uldrevin::RadolanGrid {
+pub fn to_number(number: i64) -> Option<u32> {
+    u32::try_from(number).ok()
+}
+
+pub fn to_grid(grid: Grid) -> Option<uldrevin::Grid> {
+    let (columns, rows) = (to_number(grid.columns)?, to_number(grid.rows)?);
+    match (grid.kind, grid.side) {
+        (RADOLAN_KIND, side) => Some(uldrevin::Grid::Radolan(uldrevin::RadolanGrid {
             x: grid.x,
             y: grid.y,
-            side: grid.side,
-            columns: grid.columns,
-            rows: grid.rows,
-        }),
-        Grid::Hrap(grid) => uldrevin::Grid::Hrap(uldrevin::HrapGrid {
-            i: grid.i,
-            j: grid.j,
-            columns: grid.columns,
-            rows: grid.rows,
-        }),
+            side: to_number(side)?,
+            columns,
+            rows,
+        })),
+        (HRAP_KIND, HRAP_SIDE) => Some(uldrevin::Grid::Hrap(uldrevin::HrapGrid {
+            i: grid.x,
+            j: grid.y,
+            columns,
+            rows,
+        })),
+        _ => None,
     }
 }
 
 fn from_grid(grid: uldrevin::Grid) -> Grid {
-    match grid {
-        uldrevin::Grid::Radolan(grid) => Grid::Radolan(RadolanGrid {
-            x: grid.x,
-            y: grid.y,
-            side: grid.side,
-            columns: grid.columns,
-            rows: grid.rows,
-        }),
-        uldrevin::Grid::Hrap(grid) => Grid::Hrap(HrapGrid {
-            i: grid.i,
-            j: grid.j,
-            columns: grid.columns,
-            rows: grid.rows,
-        }),
+    let (kind, x, y, side) = match grid {
+        uldrevin::Grid::Radolan(grid) => (RADOLAN_KIND, grid.x, grid.y, grid.side.into()),
+        uldrevin::Grid::Hrap(grid) => (HRAP_KIND, grid.i, grid.j, HRAP_SIDE),
+    };
+    Grid {
+        kind,
+        x,
+        y,
+        side,
+        columns: grid.columns().into(),
+        rows: grid.rows().into(),
     }
 }
 
-pub fn to_head(head: &Head) -> uldrevin::ScanHead {
-    uldrevin::ScanHead {
+pub fn to_head(head: &Head) -> Option<uldrevin::ScanHead> {
+    Some(uldrevin::ScanHead {
         site: to_site(head.site),
-        rays: head.rays,
-        gates: head.gates,
-        first: head.first,
-        spacing: head.spacing,
-        grid: to_grid(head.grid),
+        rays: to_number(head.rays)?,
+        gates: to_number(head.gates)?,
+        first: to_number(head.first)?,
+        spacing: to_number(head.spacing)?,
+        grid: to_grid(head.grid)?,
         weighting: match head.weighting {
-            Weighting::Plain => uldrevin::Weighting::Plain,
-            Weighting::ByQuality => uldrevin::Weighting::ByQuality,
+            PLAIN => uldrevin::Weighting::Plain,
+            BY_QUALITY => uldrevin::Weighting::ByQuality,
+            _ => return None,
         },
-    }
+    })
 }
 
 pub fn from_head(head: uldrevin::ScanHead) -> Head {
     Head {
         site: from_site(head.site),
-        rays: head.rays,
-        gates: head.gates,
-        first: head.first,
-        spacing: head.spacing,
+        rays: head.rays.into(),
+        gates: head.gates.into(),
+        first: head.first.into(),
+        spacing: head.spacing.into(),
         grid: from_grid(head.grid),
         weighting: match head.weighting {
-            uldrevin::Weighting::Plain => Weighting::Plain,
-            uldrevin::Weighting::ByQuality => Weighting::ByQuality,
+            uldrevin::Weighting::Plain => PLAIN,
+            uldrevin::Weighting::ByQuality => BY_QUALITY,
         },
     }
 }

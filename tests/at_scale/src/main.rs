@@ -1,10 +1,12 @@
 //! Works the library and the plain program on the same drawn cases and compares all that they answer and leave.
 
+mod calls;
 mod command;
 mod counts;
 mod damage;
 mod draw;
 mod gates;
+mod handed_in;
 mod kinds;
 mod lent_list;
 mod outcome;
@@ -38,8 +40,9 @@ const MOST_PRINTED: u64 = 10;
 /// The command that works something again, without its last words.
 const AGAIN: &str = "cargo run --release --offline -p at_scale --";
 
-/// In so many cases each refusal number comes up dozens of times, so one that does not is an error.
-const CASES_FOR_EVERY_REFUSAL: u64 = 100_000;
+/// In so many cases each refusal number, and each number that 32 bits do not hold, comes up dozens of times, so one that does not is an
+/// error.
+const CASES_FOR_ALL: u64 = 100_000;
 
 fn print_difference(kind: Kind, seed: u64, outcome: &Outcome, counts: &Counts) {
     let Some(difference) = &outcome.difference else {
@@ -87,11 +90,11 @@ fn run(amount: Amount, seed: u64, tables: &Tables) -> ExitCode {
     let counts = work(amount, seed, tables);
     counts.print();
     let missing = match counts.cases {
-        CASES_FOR_EVERY_REFUSAL.. => counts.missing(),
+        CASES_FOR_ALL.. => counts.missing(),
         _ => Vec::new(),
     };
-    if !missing.is_empty() {
-        println!("no case was refused by {missing:?}");
+    for line in &missing {
+        println!("{line}");
     }
     println!(
         "{} gates, {} seconds",

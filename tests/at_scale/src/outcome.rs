@@ -1,5 +1,6 @@
 //! What comes of one case.
 
+use crate::handed_in::Named;
 use std::fmt::Debug;
 
 pub struct Outcome {
@@ -7,23 +8,28 @@ pub struct Outcome {
     pub answer: u32,
     /// The gates of an accepted case; a refused case has none.
     pub gates: usize,
+    /// The numbers that were handed in, other than those of lists and records.
+    pub handed_in: Vec<Named>,
     /// Where the library differs.
     pub difference: Option<String>,
 }
 
 impl Outcome {
-    pub fn new<T>(plain: &Result<T, u32>, gates: usize, difference: Option<String>) -> Outcome {
-        match plain {
-            Ok(_) => Outcome {
-                answer: 0,
-                gates,
-                difference,
-            },
-            Err(number) => Outcome {
-                answer: *number,
-                gates: 0,
-                difference,
-            },
+    pub fn new<T>(
+        plain: &Result<T, u32>,
+        gates: usize,
+        handed_in: Vec<Named>,
+        difference: Option<String>,
+    ) -> Outcome {
+        let (answer, gates) = match plain {
+            Ok(_) => (0, gates),
+            Err(number) => (*number, 0),
+        };
+        Outcome {
+            answer,
+            gates,
+            handed_in,
+            difference,
         }
     }
 }

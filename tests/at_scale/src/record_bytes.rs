@@ -1,8 +1,7 @@
 //! The bytes of a scan's record with any numbers in it, also those that a writer refuses.
 
 use crate::scan_input::ScanInput;
-use plain_program::placement::Grid;
-use plain_program::scan::Weighting;
+use plain_program::placement::{Grid, RADOLAN_KIND};
 
 /// A field as it stands in the bytes. The length need not be that of the content.
 #[derive(Clone)]
@@ -28,34 +27,22 @@ fn numbers(list: &[(i64, usize)]) -> Vec<u8> {
 }
 
 fn grid(grid: Grid) -> Vec<u8> {
-    match grid {
-        Grid::Radolan(grid) => numbers(&[
-            (1, 1),
-            (grid.x, 4),
-            (grid.y, 4),
-            (grid.side.into(), 4),
-            (grid.columns.into(), 2),
-            (grid.rows.into(), 2),
-        ]),
-        Grid::Hrap(grid) => numbers(&[
-            (2, 1),
-            (grid.i, 2),
-            (grid.j, 2),
-            (grid.columns.into(), 2),
-            (grid.rows.into(), 2),
-        ]),
-    }
+    let size = [(grid.columns, 2), (grid.rows, 2)];
+    let cells = match grid.kind {
+        RADOLAN_KIND => numbers(&[(grid.x, 4), (grid.y, 4), (grid.side, 4)]),
+        _ => numbers(&[(grid.x, 2), (grid.y, 2)]),
+    };
+    [numbers(&[(grid.kind, 1)]), cells, numbers(&size)].concat()
 }
 
 /// The seven fields.
 pub fn fields_of(scan: &ScanInput) -> Vec<Field> {
     let head = &scan.head;
-    let weighting = u8::from(head.weighting == Weighting::ByQuality);
     let shape = numbers(&[
-        (head.rays.into(), 2),
-        (head.gates.into(), 2),
-        (head.first.into(), 4),
-        (head.spacing.into(), 4),
+        (head.rays, 2),
+        (head.gates, 2),
+        (head.first, 4),
+        (head.spacing, 4),
     ]);
     let azimuths = scan.azimuths.iter().flat_map(|number| number.to_be_bytes());
     let values = scan.values.iter().flat_map(|number| number.to_be_bytes());
@@ -66,7 +53,7 @@ pub fn fields_of(scan: &ScanInput) -> Vec<Field> {
         ),
         field(2, shape),
         field(3, grid(head.grid)),
-        field(4, vec![weighting]),
+        field(4, numbers(&[(head.weighting, 1)])),
         field(5, azimuths.collect()),
         field(6, values.collect()),
         field(7, scan.qualities.clone()),

@@ -32,19 +32,19 @@ impl Case {
 }
 
 /// A number of rays or gates that a record can say but that is refused. The lists still fit the lengths of two bytes.
-fn wrong_count(draw: &mut Draw, most: u32) -> u32 {
-    let far = draw.good_u32(most + 1..=2_000);
+fn wrong_count(draw: &mut Draw, most: i64) -> i64 {
+    let far = draw.good(most + 1..=2_000);
     draw.one_of(&[0, most + 1, most + 2, far])
 }
 
 /// Mostly small; at times large, or with rays or gates wrong.
 fn shape(draw: &mut Draw) -> Shape {
     let (rays, gates) = match draw.below(200) {
-        0 => (draw.good_u32(1..=MOST_RAYS), draw.good_u32(1..=40)),
-        1 => (draw.good_u32(1..=20), draw.good_u32(1..=MOST_GATES)),
-        2..=7 => (wrong_count(draw, MOST_RAYS), draw.good_u32(0..=2)),
-        8..=13 => (draw.good_u32(0..=2), wrong_count(draw, MOST_GATES)),
-        _ => (draw.good_u32(1..=8), draw.good_u32(1..=12)),
+        0 => (draw.good(1..=MOST_RAYS), draw.good(1..=40)),
+        1 => (draw.good(1..=20), draw.good(1..=MOST_GATES)),
+        2..=7 => (wrong_count(draw, MOST_RAYS), draw.good(0..=2)),
+        8..=13 => (draw.good(0..=2), wrong_count(draw, MOST_GATES)),
+        _ => (draw.good(1..=8), draw.good(1..=12)),
     };
     Shape {
         rays,
@@ -197,5 +197,5 @@ pub fn compare(case: &Case) -> Outcome {
     let difference = compare_answers("head", &library_head, &head)
         .or_else(|| numbers.find_map(|number| compare_field(record, &head, number)))
         .or(in_lists);
-    Outcome::new(&plain, case.lengths[1], difference)
+    Outcome::new(&plain, case.lengths[1], Vec::new(), difference)
 }

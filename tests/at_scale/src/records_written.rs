@@ -1,8 +1,9 @@
 //! Records written: the answer and the whole buffer by the library and by the plain program.
 
+use crate::calls;
 use crate::draw::Draw;
+use crate::handed_in::scan_numbers;
 use crate::lent_list::LentList;
-use crate::library::to_head;
 use crate::outcome::{compare_answers, Outcome};
 use crate::record_bytes::length_of;
 use crate::scan_input::{scan_of, spoil, ScanInput, Shape};
@@ -21,18 +22,18 @@ pub struct Case {
 }
 
 /// Rays and gates in a ray about the most gates that are written: 32,767, one more, or near it.
-fn about_the_most(draw: &mut Draw) -> (u32, u32) {
-    let rays = draw.good_u32(33..=MOST_RAYS);
-    let near = (rays, MOST_GATES_TO_WRITE as u32 / rays + 1);
+fn about_the_most(draw: &mut Draw) -> (i64, i64) {
+    let rays = draw.good(33..=MOST_RAYS);
+    let near = (rays, MOST_GATES_TO_WRITE as i64 / rays + 1);
     draw.one_of(&[(217, 151), (64, 512), (512, 64), near])
 }
 
 fn shape(draw: &mut Draw) -> Shape {
     let (rays, gates) = match draw.below(200) {
         0..=2 => about_the_most(draw),
-        3 => (draw.good_u32(1..=MOST_RAYS), draw.good_u32(1..=40)),
-        4 => (draw.good_u32(1..=20), draw.good_u32(1..=MOST_GATES)),
-        _ => (draw.good_u32(1..=8), draw.good_u32(1..=12)),
+        3 => (draw.good(1..=MOST_RAYS), draw.good(1..=40)),
+        4 => (draw.good(1..=20), draw.good(1..=MOST_GATES)),
+        _ => (draw.good(1..=8), draw.good(1..=12)),
     };
     Shape {
         rays,
@@ -74,9 +75,7 @@ pub fn compare(case: &Case) -> Outcome {
     let (mut with_plain, mut with_library) = (before.clone(), before.clone());
     let (scan, head) = (&case.scan, &case.scan.head);
     let plain = write(head, scan.given(), with_plain.lent());
-    let library =
-        uldrevin::write_record_into(to_head(head), scan.gate_lists(), with_library.lent())
-            .map_err(|refusal| refusal.number);
+    let library = calls::write(head, scan.gate_lists(), with_library.lent());
     let unchanged = || match plain {
         Ok(_) => None,
         Err(_) => with_library.compare("buffer", &before, "before stood"),
@@ -84,5 +83,5 @@ pub fn compare(case: &Case) -> Outcome {
     let difference = compare_answers("write", &library, &plain)
         .or_else(|| with_library.compare("buffer", &with_plain, "the plain program"))
         .or_else(unchanged);
-    Outcome::new(&plain, scan.values.len(), difference)
+    Outcome::new(&plain, scan.values.len(), scan_numbers(head), difference)
 }

@@ -3,12 +3,12 @@
 use crate::draw::Draw;
 use crate::sites_and_grids::{
     good_site, grid_anywhere, grid_kind, grid_near, position, range_at_mesh_line, spoil_grid,
-    spoil_site, GridKind,
+    spoil_site,
 };
-use plain_program::placement::{FARTHEST, LAST_AZIMUTH};
+use plain_program::placement::{AZIMUTHS, FARTHEST, HRAP_KIND, LAST_AZIMUTH, RANGES};
 use plain_program::scan::{
-    Given, Head, Weighting, MOST_GATES, MOST_QUALITY, MOST_RAYS, MOST_SPACING, NOT_MEASURED,
-    NO_ECHO,
+    Given, Head, BY_QUALITY, GATES, MOST_GATES, MOST_QUALITY, MOST_SPACING, NOT_MEASURED, NO_ECHO,
+    PLAIN, RAYS, SPACINGS,
 };
 use plain_program::sine::Tables;
 
@@ -43,41 +43,41 @@ impl ScanInput {
 /// Rays, gates in a ray, and the most columns and rows.
 #[derive(Clone, Copy)]
 pub struct Shape {
-    pub rays: u32,
-    pub gates: u32,
-    pub most_cells: u32,
+    pub rays: i64,
+    pub gates: i64,
+    pub most_cells: i64,
 }
 
 /// First centre and spacing of so many gates in a ray, often with the last centre at its limit.
-fn centres(draw: &mut Draw, gates: u32) -> (u32, u32) {
+fn centres(draw: &mut Draw, gates: i64) -> (i64, i64) {
     let steps = (gates - 1).max(1);
     let most = MOST_SPACING.min(FARTHEST / steps);
     let near = draw.one_of(&[most, most.min(100), most.min(100_000)]);
-    let spacing = draw.good_u32(1..=near);
-    let first = draw.good_u32(0..=FARTHEST - steps * spacing);
+    let spacing = draw.good(1..=near);
+    let first = draw.good(0..=FARTHEST - steps * spacing);
     (first, spacing)
 }
 
 /// The same with the gates a few centimetres apart and, where that can be, before and behind the range.
-fn centres_about(draw: &mut Draw, gates: u32, range: u32) -> (u32, u32) {
-    let spacing = draw.good_u32(1..=3);
-    let before = draw.below(gates as usize) as u32 * spacing;
-    let first = range.saturating_sub(before);
+fn centres_about(draw: &mut Draw, gates: i64, range: i64) -> (i64, i64) {
+    let spacing = draw.good(1..=3);
+    let before = draw.within(0..=gates - 1) * spacing;
+    let first = (range - before).max(0);
     (first.min(FARTHEST - (gates - 1) * spacing), spacing)
 }
 
 /// A head with every number good but for the shape, which is taken as it is. Mostly a ray at the azimuth meets the grid.
-fn head(draw: &mut Draw, tables: &Tables, shape: Shape, azimuth: u32) -> Head {
+fn head(draw: &mut Draw, tables: &Tables, shape: Shape, azimuth: i64) -> Head {
     let (site, kind) = (good_site(draw), grid_kind(draw));
     let gates = shape.gates.clamp(1, MOST_GATES);
     let (first, spacing) = match (kind, draw.below(4)) {
-        (GridKind::Hrap, 0) => {
+        (HRAP_KIND, 0) => {
             let range = range_at_mesh_line(draw, tables, site, azimuth);
             centres_about(draw, gates, range)
         }
         _ => centres(draw, gates),
     };
-    let range = first + draw.below(gates as usize) as u32 * spacing;
+    let range = first + draw.within(0..=gates - 1) * spacing;
     let grid = match draw.below(16) {
         0 => grid_anywhere(draw, kind, shape.most_cells),
         _ => {
@@ -92,20 +92,20 @@ fn head(draw: &mut Draw, tables: &Tables, shape: Shape, azimuth: u32) -> Head {
         first,
         spacing,
         grid,
-        weighting: draw.one_of(&[Weighting::Plain, Weighting::ByQuality]),
+        weighting: draw.one_of(&[PLAIN, BY_QUALITY]),
     }
 }
 
 /// Azimuths one behind the other around the circle, all equal, or anywhere.
-fn azimuths(draw: &mut Draw, rays: usize) -> Vec<u32> {
-    let (start, manner) = (draw.good_u32(0..=LAST_AZIMUTH), draw.below(3));
-    let step = (LAST_AZIMUTH + 1) / (rays.max(1) as u32);
-    let azimuth = |ray: usize| match manner {
+fn azimuths(draw: &mut Draw, rays: i64) -> Vec<u32> {
+    let (start, manner) = (draw.good(AZIMUTHS), draw.below(3));
+    let step = (LAST_AZIMUTH + 1) / rays.max(1);
+    let azimuth = |ray: i64| match manner {
         0 => start,
-        1 => (start + ray as u32 * step) % (LAST_AZIMUTH + 1),
-        _ => draw.good_u32(0..=LAST_AZIMUTH),
+        1 => (start + ray * step) % (LAST_AZIMUTH + 1),
+        _ => draw.good(AZIMUTHS),
     };
-    (0..rays).map(azimuth).collect()
+    (0..rays).map(azimuth).map(|good| good as u32).collect()
 }
 
 fn mixed_value(draw: &mut Draw) -> u16 {
@@ -147,13 +147,13 @@ fn qualities(draw: &mut Draw, gates: usize) -> Vec<u8> {
 /// A scan with every number good but for the shape, which is taken as it is.
 pub fn scan_of(draw: &mut Draw, tables: &Tables, shape: Shape) -> ScanInput {
     let gates = (shape.rays * shape.gates) as usize;
-    let azimuths = azimuths(draw, shape.rays as usize);
+    let azimuths = azimuths(draw, shape.rays);
     let met = match azimuths.len() {
         0 => 0,
         _ => draw.one_of(&azimuths),
     };
     ScanInput {
-        head: head(draw, tables, shape, met),
+        head: head(draw, tables, shape, met.into()),
         azimuths,
         values: values(draw, gates),
         qualities: qualities(draw, gates),
@@ -163,11 +163,11 @@ pub fn scan_of(draw: &mut Draw, tables: &Tables, shape: Shape) -> ScanInput {
 /// Spoils the centres: the first, the spacing, or the last by one centimetre or more.
 fn spoil_centres(draw: &mut Draw, head: &mut Head) {
     match draw.below(3) {
-        0 => head.first = draw.wrong_u32(0..=FARTHEST),
-        1 => head.spacing = draw.wrong_u32(1..=MOST_SPACING),
+        0 => head.first = draw.wrong(RANGES),
+        1 => head.spacing = draw.wrong(SPACINGS),
         _ => {
-            let over = draw.good_u32(0..=2);
-            let length = head.gates.saturating_sub(1).wrapping_mul(head.spacing);
+            let over = draw.good(0..=2);
+            let length = head.gates.wrapping_sub(1).wrapping_mul(head.spacing);
             head.first = (FARTHEST + over).wrapping_sub(length);
         }
     }
@@ -175,16 +175,17 @@ fn spoil_centres(draw: &mut Draw, head: &mut Head) {
 
 /// Spoils one number of the head, other than rays and gates.
 pub fn spoil_number(draw: &mut Draw, head: &mut Head) {
-    match draw.below(3) {
-        0 => spoil_centres(draw, head),
-        1 => spoil_site(draw, &mut head.site),
+    match draw.below(8) {
+        0..=1 => spoil_centres(draw, head),
+        2..=3 => spoil_site(draw, &mut head.site),
+        4 => head.weighting = draw.wrong(PLAIN..=BY_QUALITY),
         _ => spoil_grid(draw, &mut head.grid),
     }
 }
 
 /// Puts a wrong azimuth or quality somewhere.
 pub fn spoil_contents(draw: &mut Draw, scan: &mut ScanInput) {
-    let azimuth = draw.wrong_u32(0..=LAST_AZIMUTH);
+    let azimuth = draw.wrong(AZIMUTHS) as u32;
     let wrong = draw.within(i64::from(MOST_QUALITY) + 1..=255) as u8;
     let quality = draw.one_of(&[MOST_QUALITY + 1, 255, wrong]);
     if draw.one_in(2) {
@@ -218,8 +219,8 @@ fn spoil_lengths(draw: &mut Draw, scan: &mut ScanInput) {
 /// Spoils one thing of a scan that a call hands in.
 pub fn spoil(draw: &mut Draw, scan: &mut ScanInput) {
     match draw.below(7) {
-        0 => scan.head.rays = draw.wrong_u32(1..=MOST_RAYS),
-        1 => scan.head.gates = draw.wrong_u32(1..=MOST_GATES),
+        0 => scan.head.rays = draw.wrong(RAYS),
+        1 => scan.head.gates = draw.wrong(GATES),
         2 => spoil_lengths(draw, scan),
         3 => spoil_contents(draw, scan),
         _ => spoil_number(draw, &mut scan.head),

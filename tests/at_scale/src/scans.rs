@@ -1,11 +1,12 @@
 //! Whole scans: the answer and all six lists by the library and by the plain program.
 
+use crate::calls;
 use crate::draw::Draw;
+use crate::handed_in::scan_numbers;
 use crate::lent_list::LentList;
-use crate::library::to_head;
 use crate::outcome::{compare_answers, Outcome};
 use crate::scan_input::{scan_of, spoil, ScanInput, Shape};
-use plain_program::placement::{Grid, MOST_COLUMNS_OR_ROWS};
+use plain_program::placement::MOST_COLUMNS_OR_ROWS;
 use plain_program::scan::{remap, Lent, MOST_GATES, MOST_RAYS};
 use plain_program::sine::Tables;
 
@@ -62,25 +63,18 @@ fn shape(draw: &mut Draw) -> Shape {
         _ => (12, 40, 30),
     };
     Shape {
-        rays: draw.good_u32(1..=rays),
-        gates: draw.good_u32(1..=gates),
+        rays: draw.good(1..=rays),
+        gates: draw.good(1..=gates),
         most_cells,
     }
-}
-
-fn cells(grid: Grid) -> usize {
-    let (columns, rows) = match grid {
-        Grid::Radolan(grid) => (grid.columns, grid.rows),
-        Grid::Hrap(grid) => (grid.columns, grid.rows),
-    };
-    columns as usize * rows as usize
 }
 
 fn good(draw: &mut Draw, tables: &Tables) -> Case {
     let shape = shape(draw);
     let scan = scan_of(draw, tables, shape);
+    let cells = scan.head.grid.columns * scan.head.grid.rows;
     Case {
-        lengths: Lengths::exact(scan.values.len(), cells(scan.head.grid)),
+        lengths: Lengths::exact(scan.values.len(), cells as usize),
         scan,
         margin: draw.one_of(&[0, 1, 5]),
         contents: draw.bits(),
@@ -171,8 +165,7 @@ fn by_library(case: &Case, lists: &mut Lists) -> Result<(), u32> {
         means: lists.means.lent(),
         cell_qualities: lists.cell_qualities.lent(),
     };
-    uldrevin::remap_into(to_head(&case.scan.head), case.scan.gate_lists(), lent)
-        .map_err(|refusal| refusal.number)
+    calls::remap(&case.scan.head, case.scan.gate_lists(), lent)
 }
 
 pub fn compare(case: &Case, tables: &Tables) -> Outcome {
@@ -187,5 +180,6 @@ pub fn compare(case: &Case, tables: &Tables) -> Outcome {
     let difference = compare_answers("remap", &library, &plain)
         .or_else(|| with_library.compare(&with_plain, "the plain program"))
         .or_else(unchanged);
-    Outcome::new(&plain, case.scan.values.len(), difference)
+    let handed_in = scan_numbers(&case.scan.head);
+    Outcome::new(&plain, case.scan.values.len(), handed_in, difference)
 }

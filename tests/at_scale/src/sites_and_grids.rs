@@ -2,19 +2,14 @@
 
 use crate::draw::Draw;
 use plain_program::placement::{
-    place, Grid, HrapGrid, RadolanGrid, Site, CORNERS, FARTHEST, FIRST_CELLS, HRAP_SIDE, LATITUDES,
-    LONGITUDES, SIDES, SIZES,
+    place, Grid, Site, CORNERS, FARTHEST, FIRST_CELLS, HRAP_KIND, HRAP_SIDE, LATITUDES, LONGITUDES,
+    RADOLAN_KIND, SIDES, SIZES,
 };
 use plain_program::sine::Tables;
+use std::ops::RangeInclusive;
 
-#[derive(Clone, Copy)]
-pub enum GridKind {
-    Radolan,
-    Hrap,
-}
-
-pub fn grid_kind(draw: &mut Draw) -> GridKind {
-    draw.one_of(&[GridKind::Radolan, GridKind::Hrap])
+pub fn grid_kind(draw: &mut Draw) -> i64 {
+    draw.one_of(&[RADOLAN_KIND, HRAP_KIND])
 }
 
 pub fn good_site(draw: &mut Draw) -> Site {
@@ -37,34 +32,21 @@ pub fn spoil_site(draw: &mut Draw, site: &mut Site) {
 }
 
 /// X and Y of a good gate by the plain program, on the sphere of the grid's kind.
-pub fn position(
-    tables: &Tables,
-    kind: GridKind,
-    site: Site,
-    azimuth: u32,
-    range: u32,
-) -> (i64, i64) {
-    let any_good = match kind {
-        GridKind::Radolan => Grid::Radolan(RadolanGrid {
-            x: 0,
-            y: 0,
-            side: 10_000,
-            columns: 1,
-            rows: 1,
-        }),
-        GridKind::Hrap => Grid::Hrap(HrapGrid {
-            i: 0,
-            j: 0,
-            columns: 1,
-            rows: 1,
-        }),
+pub fn position(tables: &Tables, kind: i64, site: Site, azimuth: i64, range: i64) -> (i64, i64) {
+    let any_good = Grid {
+        kind,
+        x: 0,
+        y: 0,
+        side: HRAP_SIDE,
+        columns: 1,
+        rows: 1,
     };
     let placement = place(tables, site, any_good, azimuth, range).expect("a good gate");
     (placement.x, placement.y)
 }
 
 /// The first range from 0 to `far` at which the mesh number is another than at 0, where it changes once; `far` where it does not.
-fn crossing(far: u32, mesh_number: impl Fn(u32) -> i64) -> u32 {
+fn crossing(far: i64, mesh_number: impl Fn(i64) -> i64) -> i64 {
     let (mut low, mut high) = (0, far);
     let before = mesh_number(low);
     while high - low > 1 {
@@ -79,21 +61,21 @@ fn crossing(far: u32, mesh_number: impl Fn(u32) -> i64) -> u32 {
 }
 
 /// A range at which the ray crosses a line of the HRAP mesh, if it crosses any on the part that is drawn.
-pub fn range_at_mesh_line(draw: &mut Draw, tables: &Tables, site: Site, azimuth: u32) -> u32 {
-    let (far, west_east) = (draw.good_u32(10..=FARTHEST), draw.one_in(2));
+pub fn range_at_mesh_line(draw: &mut Draw, tables: &Tables, site: Site, azimuth: i64) -> i64 {
+    let (far, west_east) = (draw.good(10..=FARTHEST), draw.one_in(2));
     crossing(far, |range| {
-        let (x, y) = position(tables, GridKind::Hrap, site, azimuth, range);
+        let (x, y) = position(tables, HRAP_KIND, site, azimuth, range);
         (if west_east { x } else { y }).div_euclid(HRAP_SIDE)
     })
 }
 
 /// The number of columns or rows before a gate: mostly inside, else the last before or the first behind the grid.
-fn cells_before(draw: &mut Draw, size: u32) -> i64 {
-    draw.good(-1..=i64::from(size))
+fn cells_before(draw: &mut Draw, size: i64) -> i64 {
+    draw.good(-1..=size)
 }
 
 /// A corner so that so many cells lie between it and the gate, whose edges may pass within three centimetres of the gate.
-fn radolan_corner(draw: &mut Draw, gate: i64, side: i64, size: u32) -> i64 {
+fn radolan_corner(draw: &mut Draw, gate: i64, side: i64, size: i64) -> i64 {
     let offset = match draw.below(2) {
         0 => draw.within(-3..=3),
         _ => draw.within(0..=side - 1),
@@ -105,81 +87,72 @@ fn radolan_corner(draw: &mut Draw, gate: i64, side: i64, size: u32) -> i64 {
 fn radolan_side(draw: &mut Draw) -> i64 {
     let (least, most) = SIDES.into_inner();
     let drawn_most = draw.one_of(&[20_000, 100_000, 1_000_000, most]);
-    i64::from(draw.good_u32(least..=drawn_most))
+    draw.good(least..=drawn_most)
 }
 
-fn radolan_near(draw: &mut Draw, (x, y): (i64, i64), columns: u32, rows: u32) -> RadolanGrid {
+fn radolan_near(draw: &mut Draw, (x, y): (i64, i64), columns: i64, rows: i64) -> Grid {
     let side = radolan_side(draw);
-    RadolanGrid {
+    Grid {
+        kind: RADOLAN_KIND,
         x: radolan_corner(draw, x, side, columns),
         y: radolan_corner(draw, y, side, rows),
-        side: side as u32,
+        side,
         columns,
         rows,
     }
 }
 
-fn hrap_near(draw: &mut Draw, (x, y): (i64, i64), columns: u32, rows: u32) -> HrapGrid {
-    HrapGrid {
-        i: x.div_euclid(HRAP_SIDE) + 401 - cells_before(draw, columns),
-        j: y.div_euclid(HRAP_SIDE) + 1_601 - cells_before(draw, rows),
+fn hrap_near(draw: &mut Draw, (x, y): (i64, i64), columns: i64, rows: i64) -> Grid {
+    Grid {
+        kind: HRAP_KIND,
+        x: x.div_euclid(HRAP_SIDE) + 401 - cells_before(draw, columns),
+        y: y.div_euclid(HRAP_SIDE) + 1_601 - cells_before(draw, rows),
+        side: HRAP_SIDE,
         columns,
         rows,
     }
 }
 
 /// A good grid of at most `most` columns and rows with the position inside or not far outside.
-pub fn grid_near(draw: &mut Draw, kind: GridKind, position: (i64, i64), most: u32) -> Grid {
-    let (columns, rows) = (draw.good_u32(1..=most), draw.good_u32(1..=most));
+pub fn grid_near(draw: &mut Draw, kind: i64, position: (i64, i64), most: i64) -> Grid {
+    let (columns, rows) = (draw.good(1..=most), draw.good(1..=most));
     match kind {
-        GridKind::Radolan => Grid::Radolan(radolan_near(draw, position, columns, rows)),
-        GridKind::Hrap => Grid::Hrap(hrap_near(draw, position, columns, rows)),
+        RADOLAN_KIND => radolan_near(draw, position, columns, rows),
+        _ => hrap_near(draw, position, columns, rows),
+    }
+}
+
+/// What is good for x and y.
+fn places(kind: i64) -> RangeInclusive<i64> {
+    match kind {
+        RADOLAN_KIND => CORNERS,
+        _ => FIRST_CELLS,
     }
 }
 
 /// A good grid anywhere.
-pub fn grid_anywhere(draw: &mut Draw, kind: GridKind, most: u32) -> Grid {
-    let (columns, rows) = (draw.good_u32(1..=most), draw.good_u32(1..=most));
-    match kind {
-        GridKind::Radolan => Grid::Radolan(RadolanGrid {
-            x: draw.good(CORNERS),
-            y: draw.good(CORNERS),
-            side: radolan_side(draw) as u32,
-            columns,
-            rows,
-        }),
-        GridKind::Hrap => Grid::Hrap(HrapGrid {
-            i: draw.good(FIRST_CELLS),
-            j: draw.good(FIRST_CELLS),
-            columns,
-            rows,
-        }),
-    }
-}
-
-fn spoil_radolan(draw: &mut Draw, grid: &mut RadolanGrid) {
-    match draw.below(5) {
-        0 => grid.x = draw.wrong(CORNERS),
-        1 => grid.y = draw.wrong(CORNERS),
-        2 => grid.side = draw.wrong_u32(SIDES),
-        3 => grid.columns = draw.wrong_u32(SIZES),
-        _ => grid.rows = draw.wrong_u32(SIZES),
-    }
-}
-
-fn spoil_hrap(draw: &mut Draw, grid: &mut HrapGrid) {
-    match draw.below(4) {
-        0 => grid.i = draw.wrong(FIRST_CELLS),
-        1 => grid.j = draw.wrong(FIRST_CELLS),
-        2 => grid.columns = draw.wrong_u32(SIZES),
-        _ => grid.rows = draw.wrong_u32(SIZES),
+pub fn grid_anywhere(draw: &mut Draw, kind: i64, most: i64) -> Grid {
+    Grid {
+        kind,
+        x: draw.good(places(kind)),
+        y: draw.good(places(kind)),
+        side: match kind {
+            RADOLAN_KIND => radolan_side(draw),
+            _ => HRAP_SIDE,
+        },
+        columns: draw.good(1..=most),
+        rows: draw.good(1..=most),
     }
 }
 
 /// Spoils one number of the grid.
 pub fn spoil_grid(draw: &mut Draw, grid: &mut Grid) {
-    match grid {
-        Grid::Radolan(grid) => spoil_radolan(draw, grid),
-        Grid::Hrap(grid) => spoil_hrap(draw, grid),
+    match draw.below(6) {
+        0 => grid.kind = draw.wrong(RADOLAN_KIND..=HRAP_KIND),
+        1 => grid.x = draw.wrong(places(grid.kind)),
+        2 => grid.y = draw.wrong(places(grid.kind)),
+        3 => grid.side = draw.wrong(SIDES),
+        4 => grid.columns = draw.wrong(SIZES),
+        _ => grid.rows = draw.wrong(SIZES),
     }
 }

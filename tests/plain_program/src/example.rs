@@ -1,7 +1,7 @@
 //! Document 01's example for the sheet program, without its lists.
 
-use crate::placement::{Grid, HrapGrid, Site};
-use crate::scan::{Head, Weighting};
+use crate::placement::{Grid, Site, HRAP_KIND, HRAP_SIDE};
+use crate::scan::{Head, BY_QUALITY};
 
 pub(crate) const EXAMPLE: Head = Head {
     site: Site {
@@ -12,11 +12,13 @@ pub(crate) const EXAMPLE: Head = Head {
     gates: 2,
     first: 0,
     spacing: 100_000,
-    grid: Grid::Hrap(HrapGrid {
-        i: 400,
-        j: 932,
+    grid: Grid {
+        kind: HRAP_KIND,
+        x: 400,
+        y: 932,
+        side: HRAP_SIDE,
         columns: 2,
         rows: 1,
-    }),
-    weighting: Weighting::ByQuality,
+    },
+    weighting: BY_QUALITY,
 };

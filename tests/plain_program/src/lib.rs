@@ -5,7 +5,8 @@
 //! - `scan`: a whole scan to its ledger, sums and cells, and the refusals of a scan
 //! - `record`: a scan record read and written, and the refusals of a record
 //!
-//! A refusal is given as its number in document 01, the error of a `Result`.
+//! The numbers of a site, a grid, a scan's head and a single gate may be any of 64 bits. A refusal is given as its number in document 01,
+//! the error of a `Result`.
 
 #[cfg(test)]
 mod example;

@@ -3,17 +3,21 @@
 use crate::sine::{by_q, Tables, Q};
 use std::ops::RangeInclusive;
 
-pub const FARTHEST: u32 = 46_000_000;
-pub const LAST_AZIMUTH: u32 = 3_599_999;
+pub const FARTHEST: i64 = 46_000_000;
+pub const LAST_AZIMUTH: i64 = 3_599_999;
+pub const MOST_COLUMNS_OR_ROWS: i64 = 1_500;
 
+pub const RANGES: RangeInclusive<i64> = 0..=FARTHEST;
+pub const AZIMUTHS: RangeInclusive<i64> = 0..=LAST_AZIMUTH;
 pub const LATITUDES: RangeInclusive<i64> = 200_000..=750_000;
 pub const LONGITUDES: RangeInclusive<i64> = -1_800_000..=1_800_000;
 pub const CORNERS: RangeInclusive<i64> = -2_000_000_000..=2_000_000_000; // corner x and y of RADOLAN
-pub const SIDES: RangeInclusive<u32> = 10_000..=10_000_000; // of RADOLAN
+pub const SIDES: RangeInclusive<i64> = 10_000..=10_000_000; // of RADOLAN
 pub const FIRST_CELLS: RangeInclusive<i64> = -10_000..=10_000; // I and J of HRAP
-pub const MOST_COLUMNS_OR_ROWS: u32 = 1_500;
-pub const SIZES: RangeInclusive<u32> = 1..=MOST_COLUMNS_OR_ROWS; // columns and rows
+pub const SIZES: RangeInclusive<i64> = 1..=MOST_COLUMNS_OR_ROWS; // columns and rows
 
+pub const RADOLAN_KIND: i64 = 1;
+pub const HRAP_KIND: i64 = 2;
 pub const HRAP_SIDE: i64 = 476_250;
 
 #[derive(Clone, Copy, Debug, PartialEq, Eq)]
@@ -23,26 +27,16 @@ pub struct Site {
 }
 
 #[derive(Clone, Copy, Debug, PartialEq, Eq)]
-pub struct RadolanGrid {
+pub struct Grid {
+    pub kind: i64,
+    /// Corner x of RADOLAN, I of HRAP.
     pub x: i64,
+    /// Corner y of RADOLAN, J of HRAP.
     pub y: i64,
-    pub side: u32,
-    pub columns: u32,
-    pub rows: u32,
-}
-
-#[derive(Clone, Copy, Debug, PartialEq, Eq)]
-pub struct HrapGrid {
-    pub i: i64,
-    pub j: i64,
-    pub columns: u32,
-    pub rows: u32,
-}
-
-#[derive(Clone, Copy, Debug, PartialEq, Eq)]
-pub enum Grid {
-    Radolan(RadolanGrid),
-    Hrap(HrapGrid),
+    /// Of a RADOLAN cell. For HRAP it plays no part, and is HRAP_SIDE where a record is read.
+    pub side: i64,
+    pub columns: i64,
+    pub rows: i64,
 }
 
 /// A position, and its cell where it has one.
@@ -59,29 +53,15 @@ pub(crate) fn check_site(site: Site) -> Result<(), u32> {
     good.then_some(()).ok_or(4)
 }
 
-fn size_good(columns: u32, rows: u32) -> bool {
-    SIZES.contains(&columns) && SIZES.contains(&rows)
-}
-
-fn radolan_good(grid: RadolanGrid) -> bool {
-    CORNERS.contains(&grid.x)
-        && CORNERS.contains(&grid.y)
-        && SIDES.contains(&grid.side)
-        && size_good(grid.columns, grid.rows)
-}
-
-fn hrap_good(grid: HrapGrid) -> bool {
-    FIRST_CELLS.contains(&grid.i)
-        && FIRST_CELLS.contains(&grid.j)
-        && size_good(grid.columns, grid.rows)
-}
-
 /// Refusal 5.
 pub(crate) fn check_grid(grid: Grid) -> Result<(), u32> {
-    let good = match grid {
-        Grid::Radolan(grid) => radolan_good(grid),
-        Grid::Hrap(grid) => hrap_good(grid),
+    let (x, y) = (&grid.x, &grid.y);
+    let cells_good = match grid.kind {
+        RADOLAN_KIND => CORNERS.contains(x) && CORNERS.contains(y) && SIDES.contains(&grid.side),
+        HRAP_KIND => FIRST_CELLS.contains(x) && FIRST_CELLS.contains(y),
+        _ => false,
     };
+    let good = cells_good && SIZES.contains(&grid.columns) && SIZES.contains(&grid.rows);
     good.then_some(()).ok_or(5)
 }
 
@@ -103,7 +83,7 @@ pub(crate) const HRAP: Sphere = Sphere {
     k: 1_188_882_105,
 };
 
-/// The cells of a grid, of either kind.
+/// The cells of a good grid, of either kind.
 pub(crate) struct Window {
     corner_x: i64,
     corner_y: i64,
@@ -113,24 +93,24 @@ pub(crate) struct Window {
 }
 
 impl Window {
-    pub(crate) fn of_radolan(grid: RadolanGrid) -> Window {
+    pub(crate) fn of_radolan(grid: Grid) -> Window {
         Window {
             corner_x: grid.x,
             corner_y: grid.y,
-            side: i64::from(grid.side),
-            columns: i64::from(grid.columns),
-            rows: i64::from(grid.rows),
+            side: grid.side,
+            columns: grid.columns,
+            rows: grid.rows,
         }
     }
 
     #[inline(always)] // so that the side is a constant where the cells are worked
-    pub(crate) fn of_hrap(grid: HrapGrid) -> Window {
+    pub(crate) fn of_hrap(grid: Grid) -> Window {
         Window {
-            corner_x: (grid.i - 401) * HRAP_SIDE,
-            corner_y: (grid.j - 1_601) * HRAP_SIDE,
+            corner_x: (grid.x - 401) * HRAP_SIDE,
+            corner_y: (grid.y - 1_601) * HRAP_SIDE,
             side: HRAP_SIDE,
-            columns: i64::from(grid.columns),
-            rows: i64::from(grid.rows),
+            columns: grid.columns,
+            rows: grid.rows,
         }
     }
 
@@ -158,8 +138,8 @@ pub(crate) fn pair(tables: &Tables, angle: i64) -> Pair {
 }
 
 /// Sine and cosine of the arc.
-pub(crate) fn arc(sphere: &Sphere, range: u32) -> Pair {
-    let d = (i64::from(range) * Q).div_euclid(sphere.radius);
+pub(crate) fn arc(sphere: &Sphere, range: i64) -> Pair {
+    let d = (range * Q).div_euclid(sphere.radius);
     let d2 = by_q(d * d);
     let d3 = by_q(d2 * d);
     let d4 = by_q(d2 * d2);
@@ -209,11 +189,11 @@ fn place_checked(
     sphere: &Sphere,
     window: &Window,
     site: Site,
-    azimuth: u32,
-    range: u32,
+    azimuth: i64,
+    range: i64,
 ) -> Placement {
     let survey = Survey::new(tables, sphere, site);
-    let (x, y) = survey.position(pair(tables, i64::from(azimuth)), arc(sphere, range));
+    let (x, y) = survey.position(pair(tables, azimuth), arc(sphere, range));
     Placement {
         x,
         y,
@@ -226,39 +206,51 @@ pub fn place(
     tables: &Tables,
     site: Site,
     grid: Grid,
-    azimuth: u32,
-    range: u32,
+    azimuth: i64,
+    range: i64,
 ) -> Result<Placement, u32> {
-    if range > FARTHEST {
+    if !RANGES.contains(&range) {
         return Err(3);
     }
     check_site(site)?;
     check_grid(grid)?;
-    if azimuth > LAST_AZIMUTH {
+    if !AZIMUTHS.contains(&azimuth) {
         return Err(7);
     }
-    Ok(match grid {
-        Grid::Radolan(grid) => {
-            let window = Window::of_radolan(grid);
-            place_checked(tables, &RADOLAN, &window, site, azimuth, range)
-        }
-        Grid::Hrap(grid) => {
-            let window = Window::of_hrap(grid);
-            place_checked(tables, &HRAP, &window, site, azimuth, range)
-        }
-    })
+    let (sphere, window) = match grid.kind {
+        RADOLAN_KIND => (&RADOLAN, Window::of_radolan(grid)),
+        _ => (&HRAP, Window::of_hrap(grid)),
+    };
+    Ok(place_checked(tables, sphere, &window, site, azimuth, range))
 }
 
 #[cfg(test)]
 mod tests {
     use super::*;
 
-    const WIDE_HRAP: Grid = Grid::Hrap(HrapGrid {
-        i: 0,
-        j: 0,
+    const WIDE_HRAP: Grid = Grid {
+        kind: HRAP_KIND,
+        x: 0,
+        y: 0,
+        side: HRAP_SIDE,
         columns: 1_500,
         rows: 1_500,
-    });
+    };
+
+    const GOOD: Site = Site {
+        latitude: 510_000,
+        longitude: 100_000,
+    };
+
+    /// That of document 01's case.
+    const RASTER: Grid = Grid {
+        kind: RADOLAN_KIND,
+        x: -52_346_220,
+        y: -465_864_470,
+        side: 100_000,
+        columns: 900,
+        rows: 900,
+    };
 
     fn placed(latitude: i64, longitude: i64, grid: Grid) -> Result<Placement, u32> {
         let site = Site {
@@ -278,14 +270,7 @@ mod tests {
 
     #[test]
     fn radolan_on_its_meridian() {
-        let grid = Grid::Radolan(RadolanGrid {
-            x: -52_346_220,
-            y: -465_864_470,
-            side: 100_000,
-            columns: 900,
-            rows: 900,
-        });
-        let placement = placed(510_000, 100_000, grid).unwrap();
+        let placement = placed(510_000, 100_000, RASTER).unwrap();
         assert_eq!(placement.x, 0);
         assert_eq!(placement.cell, Some(404_623));
     }
@@ -316,30 +301,51 @@ mod tests {
 
     #[test]
     fn one_gate_is_checked_by_3_4_5_7() {
-        let (tables, good) = (
-            Tables::new(),
-            Site {
-                latitude: 510_000,
-                longitude: 100_000,
-            },
-        );
+        let tables = Tables::new();
         let bad = Site {
             latitude: 0,
             longitude: 0,
         };
-        let none = Grid::Hrap(HrapGrid {
-            i: 0,
-            j: 0,
+        let none = Grid {
             columns: 0,
-            rows: 1,
-        });
+            ..WIDE_HRAP
+        };
         assert_eq!(place(&tables, bad, none, 3_600_000, 46_000_001), Err(3));
         assert_eq!(place(&tables, bad, none, 3_600_000, 46_000_000), Err(4));
-        assert_eq!(place(&tables, good, none, 3_600_000, 46_000_000), Err(5));
+        assert_eq!(place(&tables, GOOD, none, 3_600_000, 46_000_000), Err(5));
         assert_eq!(
-            place(&tables, good, WIDE_HRAP, 3_600_000, 46_000_000),
+            place(&tables, GOOD, WIDE_HRAP, 3_600_000, 46_000_000),
             Err(7)
         );
-        assert!(place(&tables, good, WIDE_HRAP, 3_599_999, 46_000_000).is_ok());
+        assert!(place(&tables, GOOD, WIDE_HRAP, 3_599_999, 46_000_000).is_ok());
+    }
+
+    const BEYOND: i64 = 1 << 32;
+
+    /// Numbers that 32 bits do not hold, also with a good number in the low 32.
+    #[test]
+    fn numbers_of_every_size() {
+        let tables = Tables::new();
+        for wrong in [-1, i64::MIN, i64::MAX, BEYOND, BEYOND + 5, 5 - BEYOND] {
+            assert_eq!(place(&tables, GOOD, RASTER, 0, wrong), Err(3));
+            assert_eq!(place(&tables, GOOD, RASTER, wrong, 0), Err(7));
+        }
+        for wrong in [i64::MIN, i64::MAX, BEYOND + 510_000] {
+            assert_eq!(placed(wrong, 100_000, RASTER), Err(4));
+            assert_eq!(placed(510_000, wrong, RASTER), Err(4));
+        }
+        for kind in [0, 3, -1, BEYOND + RADOLAN_KIND, BEYOND + HRAP_KIND] {
+            let grid = Grid { kind, ..WIDE_HRAP };
+            assert_eq!(placed(510_000, 100_000, grid), Err(5));
+        }
+    }
+
+    #[test]
+    fn the_side_of_hrap_plays_no_part() {
+        for side in [0, i64::MIN, i64::MAX] {
+            let grid = Grid { side, ..WIDE_HRAP };
+            let placement = placed(600_000, -1_050_000, grid);
+            assert_eq!(placement, placed(600_000, -1_050_000, WIDE_HRAP));
+        }
     }
 }

@@ -1,10 +1,8 @@
 //! Document 01, "Scan record": a scan as bytes, read and written.
 
-use crate::placement::{Grid, HrapGrid, RadolanGrid, Site};
-use crate::scan::{check_contents, check_gate_lengths, check_head, Given, Head, Weighting};
+use crate::placement::{Grid, Site, HRAP_KIND, HRAP_SIDE, RADOLAN_KIND};
+use crate::scan::{check_contents, check_gate_lengths, check_head, Given, Head, PLAIN};
 
-const RADOLAN_KIND: u8 = 1;
-const HRAP_KIND: u8 = 2;
 const RADOLAN_LENGTH: usize = 17;
 const HRAP_LENGTH: usize = 9;
 
@@ -15,12 +13,12 @@ fn bytes_at<const N: usize>(bytes: &[u8], place: usize) -> [u8; N] {
     std::array::from_fn(|k| bytes[place + k])
 }
 
-fn u16_at(bytes: &[u8], place: usize) -> u32 {
-    u32::from(u16::from_be_bytes(bytes_at(bytes, place)))
+fn u16_at(bytes: &[u8], place: usize) -> i64 {
+    i64::from(u16::from_be_bytes(bytes_at(bytes, place)))
 }
 
-fn u32_at(bytes: &[u8], place: usize) -> u32 {
-    u32::from_be_bytes(bytes_at(bytes, place))
+fn u32_at(bytes: &[u8], place: usize) -> i64 {
+    i64::from(u32::from_be_bytes(bytes_at(bytes, place)))
 }
 
 fn i16_at(bytes: &[u8], place: usize) -> i64 {
@@ -32,7 +30,7 @@ fn i32_at(bytes: &[u8], place: usize) -> i64 {
 }
 
 /// Takes the next field off the front of `rest`: its header is there, its tag, one of the lengths allowed, its content is there.
-fn take_field<'a>(rest: &mut &'a [u8], tag: u8, lengths: &[u64]) -> Result<&'a [u8], u32> {
+fn take_field<'a>(rest: &mut &'a [u8], tag: u8, lengths: &[i64]) -> Result<&'a [u8], u32> {
     let [found, high, low, after @ ..] = *rest else {
         return Err(11);
     };
@@ -40,7 +38,7 @@ fn take_field<'a>(rest: &mut &'a [u8], tag: u8, lengths: &[u64]) -> Result<&'a [
         return Err(12);
     }
     let length = u16::from_be_bytes([*high, *low]);
-    if !lengths.contains(&u64::from(length)) {
+    if !lengths.contains(&i64::from(length)) {
         return Err(13);
     }
     if after.len() < usize::from(length) {
@@ -56,19 +54,19 @@ fn contents(record: &[u8]) -> Result<[&[u8]; 7], u32> {
     let mut rest = record;
     let site = take_field(&mut rest, 1, &[8])?;
     let shape = take_field(&mut rest, 2, &[12])?;
-    let grid = take_field(&mut rest, 3, &[RADOLAN_LENGTH as u64, HRAP_LENGTH as u64])?;
+    let grid = take_field(&mut rest, 3, &[RADOLAN_LENGTH as i64, HRAP_LENGTH as i64])?;
     let kind = match grid.len() {
         RADOLAN_LENGTH => RADOLAN_KIND,
         _ => HRAP_KIND,
     };
-    if grid[0] != kind {
+    if i64::from(grid[0]) != kind {
         return Err(13);
     }
     let weighting = take_field(&mut rest, 4, &[1])?;
     if weighting[0] > 1 {
         return Err(13);
     }
-    let (rays, gates) = (u64::from(u16_at(shape, 0)), u64::from(u16_at(shape, 2)));
+    let (rays, gates) = (u16_at(shape, 0), u16_at(shape, 2));
     let azimuths = take_field(&mut rest, 5, &[4 * rays])?;
     let values = take_field(&mut rest, 6, &[2 * rays * gates])?;
     let qualities = take_field(&mut rest, 7, &[rays * gates])?;
@@ -80,20 +78,23 @@ fn contents(record: &[u8]) -> Result<[&[u8]; 7], u32> {
 
 /// The grid that field 3 holds; its kind agrees with its length.
 fn grid_of(content: &[u8]) -> Grid {
-    match content[0] {
-        RADOLAN_KIND => Grid::Radolan(RadolanGrid {
+    match content.len() {
+        RADOLAN_LENGTH => Grid {
+            kind: RADOLAN_KIND,
             x: i32_at(content, 1),
             y: i32_at(content, 5),
             side: u32_at(content, 9),
             columns: u16_at(content, 13),
             rows: u16_at(content, 15),
-        }),
-        _ => Grid::Hrap(HrapGrid {
-            i: i16_at(content, 1),
-            j: i16_at(content, 3),
+        },
+        _ => Grid {
+            kind: HRAP_KIND,
+            x: i16_at(content, 1),
+            y: i16_at(content, 3),
+            side: HRAP_SIDE,
             columns: u16_at(content, 5),
             rows: u16_at(content, 7),
-        }),
+        },
     }
 }
 
@@ -108,15 +109,14 @@ fn head_of([site, shape, grid, weighting, ..]: [&[u8]; 7]) -> Head {
         first: u32_at(shape, 4),
         spacing: u32_at(shape, 8),
         grid: grid_of(grid),
-        weighting: match weighting[0] {
-            0 => Weighting::Plain,
-            _ => Weighting::ByQuality,
-        },
+        weighting: i64::from(weighting[0]),
     }
 }
 
 fn azimuths_of(content: &[u8]) -> impl Iterator<Item = u32> + '_ {
-    content.chunks_exact(4).map(|number| u32_at(number, 0))
+    content
+        .chunks_exact(4)
+        .map(|number| u32::from_be_bytes(bytes_at(number, 0)))
 }
 
 fn values_of(content: &[u8]) -> impl Iterator<Item = u16> + '_ {
@@ -171,34 +171,20 @@ pub fn read(
 
 /// The content of field 3. Every number of a good grid fits its bytes.
 fn grid_content(grid: Grid) -> Vec<u8> {
-    let size = |columns: u32, rows: u32| {
-        [(columns as u16).to_be_bytes(), (rows as u16).to_be_bytes()].concat()
+    let cells = match grid.kind {
+        RADOLAN_KIND => [grid.x as i32, grid.y as i32, grid.side as i32]
+            .map(i32::to_be_bytes)
+            .concat(),
+        _ => [grid.x as i16, grid.y as i16]
+            .map(i16::to_be_bytes)
+            .concat(),
     };
-    match grid {
-        Grid::Radolan(grid) => [
-            &[RADOLAN_KIND][..],
-            &(grid.x as i32).to_be_bytes(),
-            &(grid.y as i32).to_be_bytes(),
-            &grid.side.to_be_bytes(),
-            &size(grid.columns, grid.rows),
-        ]
-        .concat(),
-        Grid::Hrap(grid) => [
-            &[HRAP_KIND][..],
-            &(grid.i as i16).to_be_bytes(),
-            &(grid.j as i16).to_be_bytes(),
-            &size(grid.columns, grid.rows),
-        ]
-        .concat(),
-    }
+    let size = [grid.columns as u16, grid.rows as u16].map(u16::to_be_bytes);
+    [&[grid.kind as u8][..], &cells, &size.concat()].concat()
 }
 
 /// The contents of the seven fields of a good scan.
 fn written_contents(head: &Head, given: Given) -> [Vec<u8>; 7] {
-    let weighting = match head.weighting {
-        Weighting::Plain => 0,
-        Weighting::ByQuality => 1,
-    };
     let big_endian = |number: &u32| number.to_be_bytes();
     [
         [head.site.latitude as i32, head.site.longitude as i32]
@@ -207,12 +193,12 @@ fn written_contents(head: &Head, given: Given) -> [Vec<u8>; 7] {
         [
             &(head.rays as u16).to_be_bytes()[..],
             &(head.gates as u16).to_be_bytes(),
-            &head.first.to_be_bytes(),
-            &head.spacing.to_be_bytes(),
+            &(head.first as u32).to_be_bytes(),
+            &(head.spacing as u32).to_be_bytes(),
         ]
         .concat(),
         grid_content(head.grid),
-        vec![weighting],
+        vec![u8::from(head.weighting != PLAIN)],
         given.azimuths.iter().flat_map(big_endian).collect(),
         given
             .values

@@ -3,37 +3,40 @@
 //! What the site decides is worked once a scan, what the azimuth decides once a ray, and what the range decides once a gate number.
 
 use crate::placement::{
-    arc, check_grid, check_site, pair, Grid, Site, Sphere, Survey, Window, FARTHEST, HRAP,
-    LAST_AZIMUTH, RADOLAN,
+    arc, check_grid, check_site, pair, Grid, Site, Sphere, Survey, Window, AZIMUTHS, HRAP, RADOLAN,
+    RADOLAN_KIND, RANGES,
 };
 use crate::sine::Tables;
+use std::ops::RangeInclusive;
 
-pub const MOST_RAYS: u32 = 720;
-pub const MOST_GATES: u32 = 1_000;
-pub const MOST_SPACING: u32 = 1_000_000;
+pub const MOST_RAYS: i64 = 720;
+pub const MOST_GATES: i64 = 1_000;
+pub const MOST_SPACING: i64 = 1_000_000;
 pub const MOST_QUALITY: u8 = 100;
+
+pub const RAYS: RangeInclusive<i64> = 1..=MOST_RAYS;
+pub const GATES: RangeInclusive<i64> = 1..=MOST_GATES; // in a ray
+pub const SPACINGS: RangeInclusive<i64> = 1..=MOST_SPACING;
+
+/// The weighting; any number but 0 is by quality.
+pub const PLAIN: i64 = 0;
+pub const BY_QUALITY: i64 = 1;
 
 pub const OUTSIDE: u32 = 4_294_967_295;
 pub const NO_ECHO: u16 = 65_534;
 pub const NOT_MEASURED: u16 = 65_535;
 pub const NO_MEAN: u16 = 65_535;
 
-#[derive(Clone, Copy, Debug, PartialEq, Eq)]
-pub enum Weighting {
-    Plain,
-    ByQuality,
-}
-
 /// A scan's numbers, without its lists.
 #[derive(Clone, Copy, Debug, PartialEq, Eq)]
 pub struct Head {
     pub site: Site,
-    pub rays: u32,
-    pub gates: u32,
-    pub first: u32,
-    pub spacing: u32,
+    pub rays: i64,
+    pub gates: i64,
+    pub first: i64,
+    pub spacing: i64,
     pub grid: Grid,
-    pub weighting: Weighting,
+    pub weighting: i64,
 }
 
 /// A scan's lists.
@@ -57,19 +60,18 @@ pub struct Lent<'a> {
 
 /// Refusal 3, of a head whose number of gates is good.
 fn check_centres(head: &Head) -> Result<(), u32> {
-    let farthest = u64::from(FARTHEST);
-    let (first, spacing) = (u64::from(head.first), u64::from(head.spacing));
-    let last = first + u64::from(head.gates - 1) * spacing;
-    let good = first <= farthest && (1..=MOST_SPACING).contains(&head.spacing) && last <= farthest;
+    let good = RANGES.contains(&head.first)
+        && SPACINGS.contains(&head.spacing)
+        && RANGES.contains(&(head.first + (head.gates - 1) * head.spacing));
     good.then_some(()).ok_or(3)
 }
 
 /// Refusals 1 to 5.
 pub(crate) fn check_head(head: &Head) -> Result<(), u32> {
-    if !(1..=MOST_RAYS).contains(&head.rays) {
+    if !RAYS.contains(&head.rays) {
         return Err(1);
     }
-    if !(1..=MOST_GATES).contains(&head.gates) {
+    if !GATES.contains(&head.gates) {
         return Err(2);
     }
     check_centres(head)?;
@@ -84,11 +86,7 @@ fn gate_lengths(head: &Head) -> (usize, usize) {
 
 /// Columns x rows of a grid that passed 5.
 fn cell_length(grid: Grid) -> usize {
-    let (columns, rows) = match grid {
-        Grid::Radolan(grid) => (grid.columns, grid.rows),
-        Grid::Hrap(grid) => (grid.columns, grid.rows),
-    };
-    (columns * rows) as usize
+    (grid.columns * grid.rows) as usize
 }
 
 /// Refusal 6 for azimuths, values and qualities.
@@ -121,7 +119,7 @@ pub(crate) fn check_contents(
     mut azimuths: impl Iterator<Item = u32>,
     qualities: &[u8],
 ) -> Result<(), u32> {
-    if azimuths.any(|azimuth| azimuth > LAST_AZIMUTH) {
+    if azimuths.any(|azimuth| !AZIMUTHS.contains(&i64::from(azimuth))) {
         return Err(7);
     }
     if qualities.iter().any(|&quality| quality > MOST_QUALITY) {
@@ -163,7 +161,7 @@ fn fill_ledger(
     }
 }
 
-fn tally(weighting: Weighting, given: Given, lent: &mut Lent) {
+fn tally(weighting: i64, given: Given, lent: &mut Lent) {
     lent.counts.fill(0);
     lent.quality_sums.fill(0);
     lent.value_sums.fill(0);
@@ -176,18 +174,18 @@ fn tally(weighting: Weighting, given: Given, lent: &mut Lent) {
         lent.counts[cell] += 1;
         lent.quality_sums[cell] += u32::from(quality);
         lent.value_sums[cell] += match weighting {
-            Weighting::Plain => u64::from(counted),
-            Weighting::ByQuality => u64::from(counted) * u64::from(quality),
+            PLAIN => u64::from(counted),
+            _ => u64::from(counted) * u64::from(quality),
         };
     }
 }
 
-fn publish(weighting: Weighting, lent: &mut Lent) {
+fn publish(weighting: i64, lent: &mut Lent) {
     for cell in 0..lent.counts.len() {
         let (count, quality_sum) = (lent.counts[cell], lent.quality_sums[cell]);
         let divisor = u64::from(match weighting {
-            Weighting::Plain => count,
-            Weighting::ByQuality => quality_sum,
+            PLAIN => count,
+            _ => quality_sum,
         });
         lent.means[cell] = match divisor {
             0 => NO_MEAN,
@@ -204,15 +202,12 @@ fn publish(weighting: Weighting, lent: &mut Lent) {
 pub fn remap(tables: &Tables, head: &Head, given: Given, lent: &mut Lent) -> Result<(), u32> {
     check(head, given, lent)?;
     let azimuths = given.azimuths;
-    match head.grid {
-        Grid::Radolan(grid) => {
-            let window = Window::of_radolan(grid);
-            fill_ledger(tables, head, &RADOLAN, &window, azimuths, lent.ledger);
-        }
-        Grid::Hrap(grid) => {
-            let window = Window::of_hrap(grid);
-            fill_ledger(tables, head, &HRAP, &window, azimuths, lent.ledger);
-        }
+    if head.grid.kind == RADOLAN_KIND {
+        let window = Window::of_radolan(head.grid);
+        fill_ledger(tables, head, &RADOLAN, &window, azimuths, lent.ledger);
+    } else {
+        let window = Window::of_hrap(head.grid);
+        fill_ledger(tables, head, &HRAP, &window, azimuths, lent.ledger);
     }
     tally(head.weighting, given, lent);
     publish(head.weighting, lent);
@@ -224,8 +219,8 @@ mod tests {
     use super::*;
     use crate::example::EXAMPLE;
 
-    const PLAIN: Head = Head {
-        weighting: Weighting::Plain,
+    const UNWEIGHTED: Head = Head {
+        weighting: PLAIN,
         ..EXAMPLE
     };
 
@@ -260,10 +255,13 @@ mod tests {
         let ok = Ok(());
         assert_eq!(cell_of(&EXAMPLE, &[0], [1, 7], [90, 10]), (ok, 1, 50, 2));
         assert_eq!(cell_of(&EXAMPLE, &[0], [1, 7], [0, 0]), (ok, NO_MEAN, 0, 2));
-        assert_eq!(cell_of(&PLAIN, &[0], [1, 7], [90, 10]), (ok, 4, 50, 2));
-        assert_eq!(cell_of(&PLAIN, &[0], [NO_ECHO, 7], [1, 2]), (ok, 3, 1, 2));
+        assert_eq!(cell_of(&UNWEIGHTED, &[0], [1, 7], [90, 10]), (ok, 4, 50, 2));
         assert_eq!(
-            cell_of(&PLAIN, &[0], [NOT_MEASURED, 7], [1, 2]),
+            cell_of(&UNWEIGHTED, &[0], [NO_ECHO, 7], [1, 2]),
+            (ok, 3, 1, 2)
+        );
+        assert_eq!(
+            cell_of(&UNWEIGHTED, &[0], [NOT_MEASURED, 7], [1, 2]),
             (ok, 7, 2, 1)
         );
     }
@@ -274,7 +272,7 @@ mod tests {
 
     #[test]
     fn last_centre() {
-        let ends_at = |last: u32| Head {
+        let ends_at = |last: i64| Head {
             first: last - 100_000,
             ..EXAMPLE
         };
@@ -297,10 +295,36 @@ mod tests {
         assert_eq!(answer(none), Err(1));
     }
 
+    /// Numbers that 32 bits do not hold, also with a good number in the low 32.
+    #[test]
+    fn numbers_of_every_size() {
+        for wrong in [-1, i64::MIN, i64::MAX, (1 << 32) + 1, 1 - (1 << 32)] {
+            let [rays, gates, first, spacing] = [wrong; 4];
+            assert_eq!(answer(Head { rays, ..EXAMPLE }), Err(1));
+            assert_eq!(answer(Head { gates, ..EXAMPLE }), Err(2));
+            assert_eq!(answer(Head { first, ..EXAMPLE }), Err(3));
+            assert_eq!(answer(Head { spacing, ..EXAMPLE }), Err(3));
+        }
+    }
+
+    #[test]
+    fn every_weighting_but_0_is_by_quality() {
+        for weighting in [-1, 2, 1 << 32, i64::MIN] {
+            let head = Head {
+                weighting,
+                ..EXAMPLE
+            };
+            assert_eq!(
+                cell_of(&head, &[0], [1, 7], [90, 10]),
+                cell_of(&EXAMPLE, &[0], [1, 7], [90, 10])
+            );
+        }
+    }
+
     #[test]
     fn refused_contents_leave_the_lists() {
         let refused = |number| (Err(number), 9, 9, 9);
-        let cell = |azimuths: &[u32]| cell_of(&PLAIN, azimuths, [NOT_MEASURED, 7], [101, 2]);
+        let cell = |azimuths: &[u32]| cell_of(&UNWEIGHTED, azimuths, [NOT_MEASURED, 7], [101, 2]);
         assert_eq!(cell(&[3_599_999]), refused(8));
         assert_eq!(cell(&[3_600_000]), refused(7));
         assert_eq!(cell(&[0, 0]), refused(6));
