@@ -53,7 +53,7 @@ SENTENCES = {
     4: "the latitude is not 200,000 to 750,000 or the longitude is not -1,800,000 to 1,800,000",
     5: "a number of the grid is out of bounds",
     6: "the length of a list is not exact",
-    7: "an azimuth is over 3,599,999",
+    7: "an azimuth is not 0 to 3,599,999",
     8: "a quality is over 100",
     11: "the record is cut short",
     12: "a tag of the record is not the next one",
@@ -70,7 +70,7 @@ class Refusal(ValueError):
     """A refusal of document 01, with its number and a sentence on it.
 
     >>> str(Refusal(7))
-    'refusal 7: an azimuth is over 3,599,999'
+    'refusal 7: an azimuth is not 0 to 3,599,999'
     """
 
     def __init__(self, number):
@@ -353,7 +353,7 @@ def place(site, grid, azimuth, range):
     404623
     >>> place(Site(510_000, 100_000), grid, azimuth=3_600_000, range=0)
     Traceback (most recent call last):
-    uldrevin.Refusal: refusal 7: an azimuth is over 3,599,999
+    uldrevin.Refusal: refusal 7: an azimuth is not 0 to 3,599,999
     """
     numbers = _numbers(azimuth=azimuth, range=range)
     cell, x, y = c_uint32(), c_int64(), c_int64()

@@ -25,7 +25,7 @@ impl Refusal {
             4 => "the latitude is not 200,000 to 750,000 or the longitude is not -1,800,000 to 1,800,000",
             5 => "a number of the grid is out of bounds",
             6 => "the length of a list is not exact",
-            7 => "an azimuth is over 3,599,999",
+            7 => "an azimuth is not 0 to 3,599,999",
             8 => "a quality is over 100",
             11 => "the record is cut short",
             12 => "a tag of the record is not the next one",
