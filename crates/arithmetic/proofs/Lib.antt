@@ -11,3 +11,4 @@ pub mod Test
 pub mod Table
 pub mod Places
 pub mod SetsLaws
+pub mod StoredTable

@@ -50,11 +50,6 @@ table-set f g (suc n) (suc j) v p e =
     ap₂ (λ (x : ℕ) (l : List ℕ). x ∷ l) (e zero (zero-lt-suc n) (λ q. omega arith))
     (table-set (λ k. f (suc k)) (λ k. g (suc k)) n j v p (λ k h q. e (suc k) (suc-le-suc h) (λ r. q (omega arith))))
 
-pub table-zero : (n : ℕ) → replicate n 0 ≡ table (λ k. 0) n
-unfolding table
-table-zero zero = refl
-table-zero (suc n) = ap (λ (l : List ℕ). 0 ∷ l) (table-zero n)
-
 -- the end of a loop that fills a list with one value, as `borrow.Author.Fill` has it
 pub fill-done : (n v : ℕ) (d l : List ℕ) → n ≤ length d → length d ≤ n → l ≡ replicate n v ++ drop n d → l ≡ replicate (length d) v
 fill-done n v d l h k e = e ∙ rw (drop-of-length-le d k, append-nil, le-antisymm h k)
@@ -69,7 +64,7 @@ written-none f a l = record {
   kept-above = λ k h. refl;
 }
 
-before-or-after : {P : Type 0} (k b : ℕ) → (k < b → P) → (b ≤ k → P) → P
+pub before-or-after : {P : Type 0} (k b : ℕ) → (k < b → P) → (b ≤ k → P) → P
 before-or-after {P} k b f g = go (ltb k b) (λ t. ltb→lt k b t) (λ t. nltb→le k b t)
   where
     go : (t : Bool) → (T t → k < b) → (T (not t) → b ≤ k) → P
@@ -91,27 +86,6 @@ written-more f a b v before after w h i e =
   where
     le-pred : (k : ℕ) → k < b + 1 → k ≤ b
     le-pred k q = omega arith
-
--- two stretches, one behind the other
-pub written-join : (f : ℕ → ℕ) (a b c : ℕ) (before between after : List ℕ) → a ≤ b → b ≤ c → Written f a b before between → Written f b c between after → Written f a c before after
-written-join f a b c before between after h i v w = record {
-  same-length = w .same-length ∙ v .same-length;
-  written = λ k p q r.
-      before-or-after k b (λ l. w .kept-below k l ∙ v .written k p l r) (λ l. w .written k l q (omega (arith, v .same-length)));
-  kept-below = λ k p. w .kept-below k (omega arith) ∙ v .kept-below k p;
-  kept-above = λ k p. w .kept-above k p ∙ v .kept-above k (omega arith);
-}
-
-pub written-up-to : {f : ℕ → ℕ} {a b c : ℕ} {before after : List ℕ} → b ≡ c → Written f a b before after → Written f a c before after
-written-up-to {f} {a} {b} {c} {before} {after} e w = subst (λ (n : ℕ). Written f a n before after) e w
-
-pub written-ext : (f g : ℕ → ℕ) (a b : ℕ) (before after : List ℕ) → ((k : ℕ) → a ≤ k → k < b → f k ≡ g k) → Written f a b before after → Written g a b before after
-written-ext f g a b before after e w = record {
-  same-length = w .same-length;
-  written = λ k h i j. w .written k h i j ∙ e k h i;
-  kept-below = w .kept-below;
-  kept-above = w .kept-above;
-}
 
 -- the whole list
 pub written-all : (f : ℕ → ℕ) (n : ℕ) (before after : List ℕ) → Written f 0 n before after → n ≡ length before → after ≡ table f n

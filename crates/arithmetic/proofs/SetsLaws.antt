@@ -1,10 +1,10 @@
 -- Lists stored one behind the other in a buffer. Assumes nothing.
 use mathlib.Core.Path.{_≡_, ap, _∙_}
-use mathlib.Core.List.{List, [], _∷_, _++_}
+use mathlib.Core.List.{List, [], _∷_, _++_, append-nil}
 use Prim.Native.Nat.{ℕ, suc, _+_, _≤_}
 use native.Mathlib.Nat.{zero-add}
 use native.Mathlib.Omega.{arith}
-use lib.ListN.{length, set, drop}
+use lib.ListN.{length, set, drop, drop-of-length-le}
 use lib.Seq.{sets, sets-eq}
 
 -- a second list right behind the first
@@ -20,3 +20,7 @@ sets-next l l′ i k xs y p q = rw (p, q) (sets-append l i xs (y ∷ []))
 -- a list stored from the start on
 pub sets-start : (l xs : List ℕ) → length xs ≤ length l → sets l 0 xs ≡ xs ++ drop (length xs) l
 sets-start l xs h = sets-eq xs l 0 (omega arith) ∙ ap (λ (k : ℕ). xs ++ drop k l) (zero-add (length xs))
+
+-- a list stored over the whole of another
+pub sets-whole : (l xs : List ℕ) → length xs ≡ length l → sets l 0 xs ≡ xs
+sets-whole l xs e = sets-start l xs (omega arith) ∙ rw (drop-of-length-le l {i = length xs} (omega arith), append-nil)

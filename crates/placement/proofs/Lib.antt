@@ -10,7 +10,6 @@ pub mod SurveyLimits
 pub mod OtherAnswers
 pub mod GateNear
 pub mod GateCases
-pub mod StoredTable
 pub mod AnswerLaws
 pub mod UnsignedLaws
 pub mod GateNumbers

@@ -11,6 +11,7 @@ use lib.ListN.{length, getD, length-replicate}
 use lib.Seq.{sets}
 use Rattle.arithmetic.specs.Places.{table, allOf}
 use Rattle.arithmetic.proofs.Places.{table-length, table-at, table-ext, all-at}
+use Rattle.arithmetic.proofs.SetsLaws.{sets-whole}
 use Rattle.arithmetic.proofs.Test.{and-true}
 use Rattle.placement.specs.Gate.{placementOf, unlessRefused, entryOf}
 use Rattle.placement.specs.Position.{positionOf}
@@ -29,7 +30,6 @@ use Rattle.remap.specs.Tally.{talliedSums, cleared, addedSums}
 use Rattle.remap.specs.TallyRoom.{Addable, Publishable}
 use Rattle.remap.proofs.AcceptedScan.{AcceptedScan}
 use Rattle.remap.proofs.RayLaws.{gates-length, gates-same, regular-gates}
-use Rattle.remap.proofs.SetsPlaces.{sets-whole}
 use Rattle.remap.proofs.TallyWidth.{GatesMost, count-fits, quality-sum-fits, value-sum-fits}
 use Rattle.remap.proofs.TallyFromNothing.{zeros-at, from-nothing}
 use Rattle.remap.proofs.PublishedRange.{mean-published, quality-published}

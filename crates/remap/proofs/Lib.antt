@@ -1,6 +1,6 @@
 pub mod AcceptedScan
 pub mod RayLaws
-pub mod SetsPlaces
+pub mod LedgerEntry
 pub mod ScanLedger
 pub mod TallyTurn
 pub mod TallyWidth

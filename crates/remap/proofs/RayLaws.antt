@@ -7,11 +7,10 @@ use native.Mathlib.Nat.{add-assoc}
 use native.Mathlib.Omega.{arith}
 use lib.ListN.{length, getD, length-append, List·getD-append}
 use lib.Seq.{getD-append-add}
-use Rattle.arithmetic.proofs.Places.{table-length, table-at, table-ext}
+use Rattle.arithmetic.proofs.Places.{before-or-after, table-length, table-at, table-ext}
 use Rattle.arithmetic.proofs.Test.{and-true}
 use Rattle.arithmetic.specs.Places.{allOf}
-use Rattle.remap.proofs.SetsPlaces.{before-or-after}
-use Rattle.remap.specs.Rays.{Ray, rayGates, allGates, gatesIn, regularRays}
+use Rattle.remap.specs.Rays.{Ray, rayGates, allGates, gatesOfRays, regularRays}
 
 module _ (given : Ray → ℕ → ℕ) (first spacing : ℕ) where
   -- rays in groups
@@ -24,8 +23,8 @@ module _ (given : Ray → ℕ → ℕ) (first spacing : ℕ) where
   unfolding rayGates
   ray-length ray = table-length _ (ray .gates)
 
-  pub gates-length : (rays : List Ray) → length (allGates given first spacing rays) ≡ gatesIn rays
-  unfolding allGates flatMap gatesIn
+  pub gates-length : (rays : List Ray) → length (allGates given first spacing rays) ≡ gatesOfRays rays
+  unfolding allGates flatMap gatesOfRays
   gates-length [] = refl
   gates-length (ray ∷ rays) = rw (length-append, ray-length ray, gates-length rays)
 
@@ -49,10 +48,10 @@ module _ (given : Ray → ℕ → ℕ) (first spacing : ℕ) where
       ∙ getD-append-add (rayGates given first spacing ray) (allGates given first spacing rays) k 0
 
   -- gate g of a ray stands behind the gates of the rays before it
-  pub gate-of-ray : (before : List Ray) (ray : Ray) (behind : List Ray) (g : ℕ) → g < ray .gates → getD (allGates given first spacing (before ++ ray ∷ behind)) (gatesIn before + g) 0 ≡ given ray (first + g * spacing)
-  unfolding gatesIn
+  pub gate-of-ray : (before : List Ray) (ray : Ray) (behind : List Ray) (g : ℕ) → g < ray .gates → getD (allGates given first spacing (before ++ ray ∷ behind)) (gatesOfRays before + g) 0 ≡ given ray (first + g * spacing)
+  unfolding gatesOfRays
   gate-of-ray [] ray behind g h = ap (λ (k : ℕ). getD (allGates given first spacing (ray ∷ behind)) k 0) (omega arith) ∙ first-ray ray behind g h
-  gate-of-ray (x ∷ before) ray behind g h = rw add-assoc (other-rays x (before ++ ray ∷ behind) (gatesIn before + g) ∙ gate-of-ray before ray behind g h)
+  gate-of-ray (x ∷ before) ray behind g h = rw add-assoc (other-rays x (before ++ ray ∷ behind) (gatesOfRays before + g) ∙ gate-of-ray before ray behind g h)
 
   -- gates are numbered ray by ray, gate g of ray i has its centre at first + g x spacing
   pub gate-at : (gates : ℕ) (azimuths : List ℕ) (i g : ℕ) → i < length azimuths → g < gates → getD (allGates given first spacing (regularRays gates azimuths)) (i * gates + g) 0 ≡ given (record { azimuth = getD azimuths i 0; gates = gates }) (first + g * spacing)
@@ -71,8 +70,8 @@ gates-same given other first spacing gates good (azimuth ∷ azimuths) a e =
     let both = and-true (good azimuth) (allOf good azimuths) a in
     ap₂ (λ (l m : List ℕ). l ++ m) (table-ext _ _ gates (λ g h. e azimuth g (both .0) h)) (gates-same given other first spacing gates good azimuths (both .1) e)
 
-pub regular-gates : (gates : ℕ) (azimuths : List ℕ) → gatesIn (regularRays gates azimuths) ≡ length azimuths * gates
-unfolding gatesIn regularRays
+pub regular-gates : (gates : ℕ) (azimuths : List ℕ) → gatesOfRays (regularRays gates azimuths) ≡ length azimuths * gates
+unfolding gatesOfRays regularRays
 regular-gates gates [] = omega arith
 regular-gates gates (azimuth ∷ azimuths) = omega (arith, regular-gates gates azimuths)
 

@@ -3,7 +3,7 @@ use mathlib.Core.List.{List, [], _∷_, map, flatMap}
 use Prim.Native.Nat.{ℕ, _+_, _*_}
 use Rattle.arithmetic.specs.Places.{table}
 
--- a ray of its own number of gates
+-- its direction, and how many gates it has
 pub record Ray : Type 0 where
   pub azimuth : ℕ
   pub gates : ℕ
@@ -17,9 +17,9 @@ unfoldable pub allGates : (Ray → ℕ → ℕ) → ℕ → ℕ → List Ray →
 allGates given first spacing rays = flatMap (rayGates given first spacing) rays
 
 -- how many gates the rays have: the next ray starts there
-unfoldable pub gatesIn : List Ray → ℕ
-gatesIn [] = 0
-gatesIn (ray ∷ rays) = ray .gates + gatesIn rays
+unfoldable pub gatesOfRays : List Ray → ℕ
+gatesOfRays [] = 0
+gatesOfRays (ray ∷ rays) = ray .gates + gatesOfRays rays
 
 -- rays of equal length
 unfoldable pub regularRays : ℕ → List ℕ → List Ray

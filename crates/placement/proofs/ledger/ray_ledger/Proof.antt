@@ -9,7 +9,7 @@ use lib.ListN.{length}
 use Rattle.placement.specs.Gate.{entryOf}
 use Rattle.placement.specs.Survey.{surveyedEntry, surveyedRay}
 use Rattle.placement.proofs.GateTerms.{ray-limits}
-use Rattle.placement.proofs.StoredTable.{Storing, storing-none, storing-next}
+use Rattle.arithmetic.proofs.StoredTable.{Storing, storing-none, storing-next}
 use Rattle.placement.proofs.OtherAnswers.{not-inside}
 use Rattle.placement.proofs.ledger.ray_ledger.Statement.{statement}
 use Rattle.placement.proofs.ledger.ray_ledger.Tie as tie
