@@ -9,7 +9,6 @@ use borrow.Author.Tests.{leb-true, le-leb}
 use lib.Dec.{leb}
 use lib.ListN.{length, getD, length-replicate}
 use lib.Seq.{sets}
-use Rattle.arithmetic.specs.Places.{table, allOf}
 use Rattle.arithmetic.proofs.Places.{table-length, table-at, table-ext, all-at}
 use Rattle.arithmetic.proofs.SetsLaws.{sets-whole}
 use Rattle.arithmetic.proofs.Test.{and-true}

@@ -1,5 +1,5 @@
 -- Ray after ray is stored behind the one before it. Assumes nothing.
-use mathlib.Core.List.{List, [], _∷_, _++_, flatMap, map}
+use mathlib.Core.List.{List, flatMap}
 use mathlib.Core.Path.{_≡_, sym, ap, _∙_}
 use Prim.Native.Nat.{ℕ, suc, _+_, _*_, _-_, _<_, _≤_}
 use native.Mathlib.Nat.{mul-le-mul-right}
@@ -11,7 +11,7 @@ use Rattle.arithmetic.proofs.Places.{table-length}
 use Rattle.arithmetic.proofs.SetsLaws.{sets-append}
 use Rattle.placement.specs.declared.survey.Survey.{Survey}
 use Rattle.placement.specs.Survey.{RaySpan, surveyedRay}
-use Rattle.remap.specs.Rays.{Ray, rayGates, allGates, regularRays}
+use Rattle.remap.specs.Rays.{rayGates, allGates, regularRays}
 use Rattle.remap.specs.LedgerRoom.{RaysSpan, surveyedLedger}
 
 -- the rays that are left to be written

@@ -3,13 +3,13 @@ use mathlib.Core.Path.{_≡_, refl, sym, ap, _∙_}
 use mathlib.Core.Bool.{Bool, true, false, _&&_, cond}
 use mathlib.Core.List.{List}
 use Prim.Native.Nat.{ℕ, _+_, _*_, _-_, _<_, _≤_, zero-le}
-use native.Mathlib.Nat.{add-zero, add-assoc, le-antisymm}
+use native.Mathlib.Nat.{add-zero, le-antisymm}
 use native.Mathlib.Omega.{arith}
 use borrow.Author.Tests.{eq-eqb, ne-eqb}
 use lib.Dec.{eqb}
 use lib.ListN.{length, length-set, set, getD}
-use Rattle.arithmetic.specs.Places.{table, sumTo}
-use Rattle.arithmetic.proofs.Places.{table-length, table-at, table-ext, table-of, table-set, sum-step, sum-split, sum-most}
+use Rattle.arithmetic.specs.Places.{sumTo}
+use Rattle.arithmetic.proofs.Places.{table-at, table-ext, table-of, table-set, sum-step, sum-split, sum-most}
 use Rattle.remap.specs.Gates.{isMeasured}
 use Rattle.remap.specs.Tally.{contributes, sumOver, added}
 

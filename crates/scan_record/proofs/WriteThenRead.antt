@@ -7,7 +7,7 @@ use native.Mathlib.Nat.{le-of-lt}
 use native.Mathlib.Omega.{arith}
 use borrow.Author.Tests.{leb-true}
 use lib.ListN.{length, getD}
-use Rattle.arithmetic.specs.Places.{sumTo, allOf}
+use Rattle.arithmetic.specs.Places.{sumTo}
 use Rattle.arithmetic.proofs.Places.{all-at}
 use Rattle.placement.specs.declared.grid.Grid.{Grid}
 use Rattle.placement.specs.declared.grid.Grid.the-variants.{Radolan, Hrap}

@@ -11,7 +11,7 @@ ghost use Rattle.scan_record.specs.RecordAnswer.{readAnswer, listsIn, fieldPlac
 ghost use Rattle.scan_record.specs.RecordBytes.{recordOf};
 ghost use Rattle.scan_record.specs.RecordPlaces.{headIn};
 ghost use Rattle.scan_record.specs.RecordRefusal.{headRefusal, readRefusal, writeRefusal};
-ghost use Rattle.uldrevin.specs.LentNumbers.{ScanNumbers, FieldNumbers, WrittenNumbers, lentHead, lentScan, lentField, lentWritten};
+ghost use Rattle.uldrevin.specs.LentNumbers.{lentHead, lentScan, lentField, lentWritten};
 ghost use Rattle.uldrevin.specs.Structs.{headOf, headNumbers, headLeft};
 
 // ---- as read

@@ -105,9 +105,11 @@ returns-5 c =
     let s = c .before .before .before .before .before .before .before .before .before in
     let good = good-gate (s .args .site) (s .args .azimuth) (s .args .range) (range-passed (c .before .before .before .before .before .before .before)) (site-passed (c .before .before .before .before .before)) in (
       accepted-answer c,
-      (numbers-told _ _ _ _ (accepted-answer c),
-      subst (PositionWithin _ (s .args .site) (s .args .grid) (s .args .azimuth) (s .args .range)) (sym (c .accepted-place .ensures))
-          (located-within (s .args .site) (s .args .grid) (s .args .azimuth) (s .args .range) good _ (lit≤ tt))),
+      (
+        numbers-told _ _ _ _ (accepted-answer c),
+        subst (PositionWithin _ (s .args .site) (s .args .grid) (s .args .azimuth) (s .args .range)) (sym (c .accepted-place .ensures))
+            (located-within (s .args .site) (s .args .grid) (s .args .azimuth) (s .args .range) good _ (lit≤ tt)),
+      ),
     )
 
 pub place-spec : {M : Type 1} → statement M

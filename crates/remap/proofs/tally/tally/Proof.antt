@@ -1,6 +1,6 @@
 -- `remap::tally::tally` meets its contract. The loop's invariant: each of the three lists holds its sums over the first k gates, added onto
 -- what it held. Assumes nothing.
-use mathlib.Core.Path.{_≡_, refl, sym, _∙_}
+use mathlib.Core.Path.{refl}
 use Prim.Native.Nat.{_-_, _≤_, _^_}
 use native.Mathlib.Omega.{arith}
 use borrow.Author.Needs.{needs}

@@ -1,5 +1,4 @@
 -- `uldrevin::structs::grid_numbers` meets its contract. Assumes nothing.
-use mathlib.Core.Path.{_≡_, sym, ap, _∙_}
 use lib.IntN.{pos}
 use Rattle.uldrevin.specs.Structs.{gridNumbers}
 use Rattle.uldrevin.proofs.StructNumbers.{word-back, small-word}

@@ -1,5 +1,5 @@
 -- `uldrevin::structs::head_of` meets its contract, number by number. Assumes nothing.
-use mathlib.Core.Path.{_≡_, ap, _∙_}
+use mathlib.Core.Path.{ap, _∙_}
 use lib.IntN.{pos}
 use lib.ListN.{getD}
 use Rattle.placement.specs.Unsigned.{unsigned32}

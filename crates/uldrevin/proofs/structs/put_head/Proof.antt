@@ -2,7 +2,6 @@
 use mathlib.Core.List.{List, _∷_}
 use mathlib.Core.Path.{_≡_, refl, ap, ap₂, _∙_}
 use lib.IntN.{ℤ, pos}
-use Rattle.scan_record.specs.RecordBytes.{weightingByte}
 use Rattle.uldrevin.specs.declared.structs.GridNumbers.{GridNumbers}
 use Rattle.uldrevin.specs.Structs.{gridNumbers, headNumbers}
 use Rattle.uldrevin.proofs.StructNumbers.{word-back, small-word}

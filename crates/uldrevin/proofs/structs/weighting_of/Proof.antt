@@ -1,5 +1,4 @@
 -- `uldrevin::structs::weighting_of` meets its contract. Assumes nothing.
-use mathlib.Core.Path.{refl}
 use native.Mathlib.Omega.{arith}
 use Rattle.uldrevin.specs.Structs.{weightingOf}
 use Rattle.uldrevin.proofs.StructNumbers.{is-number, is-other-number}
