@@ -1,23 +1,17 @@
--- Gates that were split in two: their sums add up, whatever they were added onto. Assumes nothing.
-use mathlib.Core.Path.{_≡_, refl, sym, ap, ap₂, _∙_}
-use mathlib.Core.List.{List, _++_}
-use Prim.Native.Nat.{ℕ, _+_, _<_}
+-- Gates that are split at a place: the sums of both parts add up, whatever they are added onto. Assumes nothing.
+use mathlib.Core.Path.{_≡_, sym, ap, ap₂, _∙_}
+use mathlib.Core.Bool.{cond}
+use mathlib.Core.List.{List}
+use Prim.Native.Nat.{ℕ, _+_, _-_, _≤_}
 use native.Mathlib.Omega.{arith}
-use lib.ListN.{length, length-append, getD, List·getD-append}
-use lib.Seq.{getD-append-add}
-use Rattle.arithmetic.specs.Places.{table}
+use lib.ListN.{length, length-drop, getD, take, drop}
+use lib.Seq.{length-take-le, getD-take, getD-drop}
+use Rattle.arithmetic.specs.Places.{table, sumTo}
 use Rattle.arithmetic.proofs.Places.{table-length, table-at, table-ext, sum-ext, sum-split}
 use Rattle.remap.specs.Gates.{weighed}
 use Rattle.remap.specs.LentLists.{Sums}
 use Rattle.remap.specs.Tally.{contributes, sumOver, countOf, qualitySumOf, valueSumOf, added, addedSums}
 use Rattle.remap.specs.declared.gates.Weighting.{Weighting}
-
--- what stands at a place of the first part, and of the second
-first : (n : ℕ) (l m : List ℕ) (k : ℕ) → length l ≡ n → k < n → getD (l ++ m) k 0 ≡ getD l k 0
-first n l m k e h = List·getD-append l m 0 k (omega arith)
-
-second : (n : ℕ) (l m : List ℕ) (k : ℕ) → length l ≡ n → getD (l ++ m) (n + k) 0 ≡ getD m k 0
-second n l m k e = rw (← e) (getD-append-add l m k 0)
 
 -- a share and then another are added as their sum
 added-twice : (f g whole : ℕ → ℕ) → ((cell : ℕ) → whole cell ≡ f cell + g cell) → (held : List ℕ) → added whole held ≡ added g (added f held)
@@ -28,19 +22,26 @@ added-twice f g whole e held =
     table-ext _ _ n (λ cell h. omega (arith, e cell, table-at once n cell h))
     ∙ ap (λ (m : ℕ). table (λ cell. getD (table once n) cell 0 + g cell) m) (sym (table-length once n))
 
-module _ (ls1 ls2 vs1 vs2 qs1 qs2 : List ℕ) (v : length vs1 ≡ length ls1) (q : length qs1 ≡ length ls1) where
-  pub sums-add : (share : ℕ → ℕ → ℕ) (cell : ℕ) → sumOver (ls1 ++ ls2) (vs1 ++ vs2) (qs1 ++ qs2) share (length (ls1 ++ ls2)) cell ≡ sumOver ls1 vs1 qs1 share (length ls1) cell + sumOver ls2 vs2 qs2 share (length ls2) cell
+-- what gate k gives to the cell
+abbrev given : List ℕ → List ℕ → List ℕ → (ℕ → ℕ → ℕ) → ℕ → ℕ → ℕ
+given ledger values qualities share cell k = cond (contributes ledger values qualities cell k) (share (getD values k 0) (getD qualities k 0)) 0
+
+module _ (ledger values qualities : List ℕ) (n : ℕ) (within : n ≤ length ledger) where
+  pub sums-add : (share : ℕ → ℕ → ℕ) (cell : ℕ) → sumOver ledger values qualities share (length ledger) cell ≡ sumOver (take n ledger) (take n values) (take n qualities) share (length (take n ledger)) cell + sumOver (drop n ledger) (drop n values) (drop n qualities) share (length (drop n ledger)) cell
   unfolding sumOver contributes
   sums-add share cell =
-      let n = length ls1 in
-      rw (length-append ls1 ls2)
-      (sum-split _ n (length ls2)
+      let rest = length ledger - n in
+      let whole = given ledger values qualities share cell in
+      let first = given (take n ledger) (take n values) (take n qualities) share cell in
+      let second = given (drop n ledger) (drop n values) (drop n qualities) share cell in
+      let split : length ledger ≡ n + rest = omega arith in
+      ap (sumTo whole) split ∙ sum-split whole n rest
       ∙ ap₂ (λ (x y : ℕ). x + y)
-      (sum-ext _ _ n (λ k h. rw (first n ls1 ls2 k refl h, first n vs1 vs2 k v h, first n qs1 qs2 k q h)))
-      (sum-ext _ _ (length ls2) (λ k h. rw (second n ls1 ls2 k refl, second n vs1 vs2 k v, second n qs1 qs2 k q))))
+      (sum-ext _ first n (λ k h. rw (getD-take n ledger k 0 h, getD-take n values k 0 h, getD-take n qualities k 0 h)) ∙ ap (sumTo first) (sym (length-take-le n ledger within)))
+      (sum-ext _ second rest (λ k h. rw (getD-drop n ledger k 0, getD-drop n values k 0, getD-drop n qualities k 0)) ∙ ap (sumTo second) (sym (length-drop n ledger)))
 
   -- so both parts may be added at once, or one after the other
-  pub added-in-parts : (weighting : Weighting) (sums : Sums) → addedSums weighting (ls1 ++ ls2) (vs1 ++ vs2) (qs1 ++ qs2) sums ≡ addedSums weighting ls2 vs2 qs2 (addedSums weighting ls1 vs1 qs1 sums)
+  pub added-in-parts : (weighting : Weighting) (sums : Sums) → addedSums weighting ledger values qualities sums ≡ addedSums weighting (drop n ledger) (drop n values) (drop n qualities) (addedSums weighting (take n ledger) (take n values) (take n qualities) sums)
   unfolding addedSums countOf qualitySumOf valueSumOf
   added-in-parts weighting sums i = record {
     counts = added-twice _ _ _ (sums-add (λ value quality. 1)) (sums .counts) i;
