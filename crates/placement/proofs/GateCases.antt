@@ -1,6 +1,7 @@
--- The cases of a single gate that evaluation alone does not settle: X on the central meridian and its column of the mesh. Assumes nothing.
+-- The cases of a single gate that evaluation alone does not settle: X on the central meridian and its column of the mesh, and the columns
+-- on both sides of an edge. Assumes nothing.
 use mathlib.Core.Path.{_≡_, refl, ap, ap₂, _∙_}
-use Prim.Native.Nat.{ℕ}
+use Prim.Native.Nat.{ℕ, _-_, _<_}
 use native.Mathlib.Nat.{zero-div}
 use native.Mathlib.Omega.{arith}
 use lib.Dec.{lit<}
@@ -65,13 +66,26 @@ radolan-meridian = on-meridian anyRadolan
 
 -- ---- a column is rounded down, on either side of an edge
 
-pub west-of-edge : GateHolds (columnAt 100000 (negsuc 0) (negsuc 0))
-unfolding GateHolds indexOf
-west-of-edge = refl
+-- an X that is so many sides and a rest
+column-is : (x column : ℤ) (side rest : ℕ) → rest < side → x -ℤ pos 0 ≡ column *ℤ pos side +ℤ pos rest → indexOf (pos 0) side x ≡ column
+unfolding indexOf
+column-is x column side rest h e = ap (λ (z : ℤ). z ÷ side) e ∙ floor-only column side rest h
 
-pub on-edge : GateHolds (columnAt 100000 (pos 0) (pos 0))
-unfolding GateHolds indexOf
-on-edge = refl
+pub west-of-edge : GateHolds (columnAt (λ side. negsuc 0) (negsuc 0))
+unfolding GateHolds
+west-of-edge side h = column-is _ _ side (side - 1) (omega arith) (simp differences (same-difference _ _ _ _ (omega arith)))
+
+pub on-edge : GateHolds (columnAt (λ side. pos 0) (pos 0))
+unfolding GateHolds
+on-edge side h = column-is _ _ side 0 h (simp differences (same-difference _ _ _ _ (omega arith)))
+
+pub west-of-next-edge : GateHolds (columnAt (λ side. pos (side - 1)) (pos 0))
+unfolding GateHolds
+west-of-next-edge side h = column-is _ _ side (side - 1) (omega arith) (simp differences (same-difference _ _ _ _ (omega arith)))
+
+pub on-next-edge : GateHolds (columnAt (λ side. pos side) (pos 1))
+unfolding GateHolds
+on-next-edge side h = column-is _ _ side 0 h (simp differences (same-difference _ _ _ _ (omega arith)))
 
 -- ---- the mesh column of X = 0
 

@@ -1,7 +1,7 @@
 -- Demand 3: X and Y are near the exact ones. Each line's numbers are the error, in hundredths of a unit, and the limit of the
 -- exact value; the last line's unit is the centimetre. Assumes nothing.
 use mathlib.Core.Path.{_≡_, subst}
-use Prim.Native.Nat.{ℕ, _*_, _≤_}
+use Prim.Native.Nat.{ℕ, _*_, _<_, _≤_}
 use native.Mathlib.Nat.{mul-le-mul-right}
 use native.Mathlib.Omega.{arith}
 use lib.Dec.{lit<, lit≤}
@@ -36,6 +36,12 @@ near-within {E} {M} {x} {f} bound k h = record {
   positive = h .positive;
   close = rw (← (one-gap x (f .num) (f .den))) (omega (arith, h .close, mul-le-mul-right (f .den) k));
 }
+
+-- a positive number over a positive one
+pub record Positive (f : Fraction) : Type 0 where
+  pub numerator-is : f .num ≡ pos (natAbs (f .num))
+  pub numerator-positive : 0 < natAbs (f .num)
+  pub denominator-positive : 0 < f .den
 
 module _ (sphere : Sphere) (site : Site) (azimuth range : ℕ) (H : GoodSphere sphere) (G : GoodGate site azimuth range) where
   abbrev s : SiteTerms
@@ -96,10 +102,11 @@ module _ (sphere : Sphere) (site : Site) (azimuth range : ℕ) (H : GoodSphere s
       subst (λ (z : ℤ). Near Q 1075 2230038154 z (divisor* sphere site azimuth range)) (divisor-is .0)
       (near-sum (near-whole Q (pos 1)) n-near)
 
-  -- the exact divisor is a positive fraction
-  pub exact-divisor-positive : divisor* sphere site azimuth range .num ≡ pos (natAbs (divisor* sphere site azimuth range .num))
+  -- the exact divisor is positive
+  pub exact-divisor-positive : Positive (divisor* sphere site azimuth range)
   exact-divisor-positive =
-      divisor-fraction-positive Q (divisor s a c) 1359798925 1075 _ _ (divisor-near .close) (omega (arith, divisor-is .1)) (lit< tt) (divisor-near .positive) .0
+      let known = divisor-fraction-positive Q (divisor s a c) 1359798925 1075 _ _ (divisor-near .close) (omega (arith, divisor-is .1)) (lit< tt) (divisor-near .positive) in
+      record { numerator-is = known .0; numerator-positive = omega (arith, known .1, divisor-near .positive); denominator-positive = divisor-near .positive }
 
   X-near : Near 1 positionError 1080809139 (X s a c (sphere .k)) (X* sphere site azimuth range)
   unfolding X X*

@@ -1,7 +1,7 @@
 -- Document 01, "On both sides of the line": what a case of a single gate says. The table of all cases is crate remap's
 -- `markedCases`. Assumes nothing.
 use mathlib.Core.Path.{_≡_}
-use Prim.Native.Nat.{ℕ}
+use Prim.Native.Nat.{ℕ, _<_}
 use lib.IntN.{ℤ, pos, negsuc, _+ℤ_}
 use Rattle.placement.specs.declared.grid.Grid.{Grid}
 use Rattle.placement.specs.declared.grid.Grid.the-variants.{Radolan, Hrap}
@@ -17,8 +17,8 @@ pub data GateCase : Type 0 where
   xIsZero : Grid → ℤ → GateCase
   -- X = 0 is this column of the HRAP mesh
   meshColumnOfZero : ℤ → GateCase
-  -- corner 0 and a side: this X is this column
-  columnAt : ℕ → ℤ → ℤ → GateCase
+  -- corner 0 and any positive side: this X, told by the side, is this column
+  columnAt : (ℕ → ℤ) → ℤ → GateCase
   -- a gate on which only the one number is in question: its refusal number, or 0 where it passes
   rangeRefusal : ℕ → ℕ → GateCase
   latitudeRefusal : ℤ → ℕ → GateCase
@@ -41,7 +41,7 @@ unfoldable pub GateHolds : GateCase → Type 0
 unfolding exampleRefusal exampleGrid
 GateHolds (xIsZero grid longitude) = (site : Site) (azimuth : ℕ) → site .longitude ≡ longitude → positionOf (sphereOf grid) site azimuth 0 .x ≡ pos 0
 GateHolds (meshColumnOfZero column) = (g : HrapGrid) → g .i +ℤ indexOf (windowOf (Hrap g) .x) (windowOf (Hrap g) .side) (pos 0) ≡ column
-GateHolds (columnAt side x column) = indexOf (pos 0) side x ≡ column
+GateHolds (columnAt x column) = (side : ℕ) → 0 < side → indexOf (pos 0) side (x side) ≡ column
 GateHolds (rangeRefusal given number) = exampleRefusal (pos 600000) 0 given ≡ number
 GateHolds (latitudeRefusal given number) = exampleRefusal given 0 0 ≡ number
 GateHolds (azimuthRefusal given number) = exampleRefusal (pos 600000) given 0 ≡ number

@@ -16,7 +16,7 @@ use Rattle.placement.specs.Position.{siteTerms, rayTerms, w, e, n, m, u, v, div
 use Rattle.placement.specs.Refusal.{inRange, inSignedRange, rangeAccepted, azimuthAccepted, siteAccepted, sizeAccepted, gridAccepted, firstRefusal, gateRefusal}
 use Rattle.placement.specs.Sphere.{sphereOf, radolanSphere, hrapSphere}
 use Rattle.placement.specs.Window.{windowOf, indexOf, inSpan, cellNumber, column, row, inWindow, located}
-use Rattle.placement.proofs.GateCases.{hrap-meridian, radolan-meridian, mesh-column-of-zero, west-of-edge, on-edge}
+use Rattle.placement.proofs.GateCases.{hrap-meridian, radolan-meridian, mesh-column-of-zero, west-of-edge, on-edge, west-of-next-edge, on-next-edge}
 use Rattle.remap.specs.declared.gates.Weighting.{Weighting}
 use Rattle.remap.specs.declared.gates.Weighting.the-variants.{Plain, ByQuality}
 use Rattle.remap.specs.Gates.{isMeasured, echoOf, weighed}
@@ -43,7 +43,7 @@ a and b = (a, b)
 pub every-case : AllHold markedCases
 unfolding AllHold markedCases Holds GateHolds CellsHold exampleGrid anyRadolan exampleHead example exampleScan exampleWith RefusedBy afterwards filledLists talliedSums table meanOf divisorOf qualityOf countOf qualitySumOf valueSumOf sumOver sumTo contributes isMeasured echoOf weighed raysOf refusalFor scanRefusal scanNumber centresAccepted cellsOf qualityAccepted allOf gateRefusal firstRefusal rangeAccepted siteAccepted gridAccepted sizeAccepted azimuthAccepted inRange inSignedRange windowOf indexOf sphereOf hrapSphere radolanSphere
 every-case =
-    hrap-meridian and mesh-column-of-zero and radolan-meridian and west-of-edge and on-edge and refl and refl
+    hrap-meridian and mesh-column-of-zero and radolan-meridian and west-of-edge and on-edge and west-of-next-edge and on-next-edge
     and (λ lists exact. rw (exact, example-ledger Plain))
     and (λ lists exact. rw (exact, example-ledger ByQuality))
     and (λ lists exact. rw (exact, example-ledger ByQuality))

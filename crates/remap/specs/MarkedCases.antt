@@ -89,10 +89,10 @@ markedCases =
     aGate (xIsZero exampleGrid (negsuc 1049999))
     ∷ aGate (meshColumnOfZero (pos 401))
     ∷ aGate (xIsZero anyRadolan (pos 100000))
-    ∷ aGate (columnAt 100000 (negsuc 0) (negsuc 0))
-    ∷ aGate (columnAt 100000 (pos 0) (pos 0))
-    ∷ aGate (columnAt 100000 (pos 99999) (pos 0))
-    ∷ aGate (columnAt 100000 (pos 100000) (pos 1))
+    ∷ aGate (columnAt (λ side. negsuc 0) (negsuc 0))
+    ∷ aGate (columnAt (λ side. pos 0) (pos 0))
+    ∷ aGate (columnAt (λ side. pos (side - 1)) (pos 0))
+    ∷ aGate (columnAt (λ side. pos side) (pos 1))
     ∷ cellMean Plain (1 ∷ 7 ∷ []) (90 ∷ 10 ∷ []) 4
     ∷ cellMean ByQuality (1 ∷ 7 ∷ []) (90 ∷ 10 ∷ []) 1
     ∷ cellQuality ByQuality (1 ∷ 7 ∷ []) (90 ∷ 10 ∷ []) 50
