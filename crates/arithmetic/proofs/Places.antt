@@ -3,7 +3,7 @@ use mathlib.Core.Path.{_≡_, refl, sym, ap, ap₂, _∙_}
 use mathlib.Core.Bool.{Bool, true, false, not, cond}
 use mathlib.Core.List.{List, [], _∷_, _++_, append-nil}
 use Prim.Native.Nat.{ℕ, zero, suc, _+_, _*_, _/_, _<_, _≤_, zero-le, suc-le-suc}
-use native.Mathlib.Nat.{le-antisymm, zero-lt-suc, not-suc-le-zero, le-of-suc-le-suc, add-zero, add-suc, mul-comm, mul-le-mul-right, div-le-of-le-mul, le-div-iff-mul-le}
+use native.Mathlib.Nat.{le-antisymm, zero-lt-suc, not-suc-le-zero, le-of-suc-le-suc, add-zero, add-suc, zero-mul, suc-mul, mul-comm, mul-le-mul-right, div-le-of-le-mul, le-div-iff-mul-le}
 use native.Mathlib.Numerals.{add-one}
 use native.Mathlib.Omega.{arith}
 use borrow.Author.Tests.{lt-ltb, le-ltb}
@@ -141,6 +141,16 @@ pub sum-split : (f : ℕ → ℕ) (a b : ℕ) → sumTo f (a + b) ≡ sumTo f a 
 unfolding sumTo
 sum-split f a zero = rw add-zero (omega arith)
 sum-split f a (suc b) = rw add-suc (omega (arith, sum-split f a b))
+
+-- n rows of m places each
+pub sum-rows : (f : ℕ → ℕ) (n m : ℕ) → sumTo f (n * m) ≡ sumTo (λ i. sumTo (λ g. f (i * m + g)) m) n
+unfolding sumTo
+sum-rows f zero m = ap (sumTo f) (zero-mul m)
+sum-rows f (suc n) m =
+    ap (sumTo f) (suc-mul n m) ∙ sum-split f (n * m) m ∙ ap (λ (s : ℕ). s + sumTo (λ g. f (n * m + g)) m) (sum-rows f n m)
+
+pub sum-of-table : (f : ℕ → ℕ) (n : ℕ) → sumTo (λ k. getD (table f n) k 0) (length (table f n)) ≡ sumTo f n
+sum-of-table f n = rw (table-length f n) (sum-ext _ f n (λ k h. table-at f n k h))
 
 pub sum-of-sums : (f g : ℕ → ℕ) (n : ℕ) → sumTo (λ k. f k + g k) n ≡ sumTo f n + sumTo g n
 unfolding sumTo

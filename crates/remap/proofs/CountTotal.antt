@@ -21,7 +21,7 @@ one-cell entry cells measured =
     both true b x y = refl
     both false b x y = refl
 
--- "Each cell has a count of measured gates": over a grid of so many cells, the counts add up to the measured gates that are placed inside
+-- "Each cell has a count of measured gates": over a grid of so many cells, the counts add up to the measured gates whose entry names one of the cells
 pub count-total : (ledger values qualities : List ℕ) (cells : ℕ) → sumTo (countOf ledger values qualities) cells ≡ sumTo (λ k. cond (ltb (getD ledger k 0) cells && isMeasured (getD values k 0)) 1 0) (length ledger)
 unfolding countOf sumOver contributes
 count-total ledger values qualities cells =

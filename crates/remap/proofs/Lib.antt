@@ -7,7 +7,9 @@ pub mod TallyWidth
 pub mod TallySplit
 pub mod TallyFromNothing
 pub mod CountTotal
+pub mod PlacedTotal
 pub mod MeanBetween
 pub mod PublishedRange
 pub mod AcceptedRemap
+pub mod WholeScan
 pub mod MarkedCases

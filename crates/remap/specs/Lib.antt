@@ -6,6 +6,7 @@ pub mod Gates
 pub mod Tally
 pub mod Publish
 pub mod Remap
+pub mod Placed
 pub mod LedgerRoom
 pub mod TallyRoom
 pub mod MarkedCases

@@ -19,6 +19,8 @@ use Rattle.remap.specs.Remap.{filledLists, Remaps}
 use Rattle.placement.proofs.AnswerLaws.{filled-is}
 use Rattle.remap.specs.declared.scan.Remapped.{Remapped}
 use Rattle.remap.specs.Tally.{talliedSums}
+use Rattle.remap.specs.Placed.{placedOf}
+use Rattle.remap.proofs.PlacedTotal.{placed-total}
 use Rattle.remap.proofs.AcceptedScan.{AcceptedLengths, accepted-lengths, lengths-exact, AcceptedNumbers, window-size}
 use Rattle.scan_record.specs.declared.reader.ReadScan.{ReadScan}
 use Rattle.scan_record.specs.BigEndian.{numbersAt}
@@ -27,9 +29,8 @@ use Rattle.scan_record.specs.RecordLists.{RecordLists}
 use Rattle.scan_record.specs.RecordRefusal.{headRefusal, recordRefusal, readRefusal}
 use Rattle.scan_record.specs.RecordAnswer.{listsIn, Reads}
 use Rattle.scan_record.proofs.AcceptedRecord.{accepted-record, record-numbers}
-use Rattle.sheet_text.specs.SheetText.{placedOf, sheetLines, goodSheet}
+use Rattle.sheet_text.specs.SheetText.{sheetLines, goodSheet}
 use Rattle.sheet_text.specs.SheetRoom.{Sized}
-use Rattle.sheet_text.proofs.PlacedTotal.{placed-total}
 
 -- ---- its numbers
 
@@ -130,5 +131,5 @@ pub is-sheet : {bytes : List ℕ} {head : ScanHead} {lists : Lists} → Sized by
 unfolding goodSheet scanIn
 is-sheet {bytes} {head} {lists} s e =
     ap (λ (l : Lists). linesOf head (sumTo (λ k. getD (l .sums .counts) k 0) (length (l .sums .counts))) l) e
-    ∙ ap (λ (placed : ℕ). linesOf head placed (filledLists (scanIn bytes))) (placed-total (scanIn bytes) (omega (arith, s .cells-most, ap cellsOf (s .is-head))))
-    ∙ ap (λ (h : ScanHead). linesOf h (placedOf (filledLists (scanIn bytes) .ledger) (valuesIn bytes)) (filledLists (scanIn bytes))) (s .is-head)
+    ∙ ap (λ (placed : ℕ). linesOf head placed (filledLists (scanIn bytes))) (placed-total (scanIn bytes) (azimuths-length bytes) (omega (arith, s .cells-most, ap cellsOf (s .is-head))))
+    ∙ ap (λ (h : ScanHead). linesOf h (placedOf (scanIn bytes)) (filledLists (scanIn bytes))) (s .is-head)

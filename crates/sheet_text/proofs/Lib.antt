@@ -1,4 +1,3 @@
 pub mod CellLines
-pub mod PlacedTotal
 pub mod GoodRecord
 pub mod SheetAnswers

@@ -1,15 +1,14 @@
 -- Document 01, "The sheet program": the text that is printed, for any bytes that come in. Assumes nothing.
-use mathlib.Core.Bool.{Bool, _&&_, not, cond}
+use mathlib.Core.Bool.{_&&_, cond}
 use mathlib.Core.List.{List, [], _∷_, _++_}
 use Prim.Native.Nat.{ℕ, zero, suc, _/_, _%_}
 use lib.Dec.{eqb, leb}
 use lib.ListN.{length, getD}
-use Rattle.arithmetic.specs.Places.{sumTo}
 use Rattle.placement.specs.Window.{windowOf}
-use Rattle.remap.specs.Gates.{isMeasured}
 use Rattle.remap.specs.Scan.{gatesOf, cellsOf}
+use Rattle.remap.specs.Placed.{placedOf}
 use Rattle.remap.specs.Remap.{filledLists}
-use Rattle.scan_record.specs.RecordPlaces.{headIn, valuesIn, scanIn}
+use Rattle.scan_record.specs.RecordPlaces.{headIn, scanIn}
 use Rattle.scan_record.specs.RecordRefusal.{headRefusal}
 use Rattle.text.specs.DecimalText.{decimalOf, lineOf}
 use Rattle.text.specs.RefusedLine.{refusedLine}
@@ -58,13 +57,6 @@ sheetLines columns rows gates placed counts means qualities =
 
 -- ---- of a record
 
--- the measured gates that lie inside: 4,294,967,295 is outside
-unfoldable pub isPlaced : ℕ → ℕ → Bool
-isPlaced entry value = isMeasured value && not (eqb entry 4294967295)
-
-unfoldable pub placedOf : List ℕ → List ℕ → ℕ
-placedOf ledger values = sumTo (λ k. cond (isPlaced (getD ledger k 0) (getD values k 0)) 1 0) (length ledger)
-
 -- a refusal prints `refused` and the number, and there is no sheet
 unfoldable pub refusedOr : ℕ → List ℕ → List ℕ
 refusedOr zero sheet = sheet
@@ -75,7 +67,7 @@ module _ (bytes : List ℕ) where
   goodSheet =
       let lists = filledLists (scanIn bytes) in
       sheetLines (windowOf (headIn bytes .grid) .columns) (windowOf (headIn bytes .grid) .rows) (gatesOf (headIn bytes))
-      (placedOf (lists .ledger) (valuesIn bytes)) (lists .sums .counts) (lists .cells .means) (lists .cells .qualities)
+      (placedOf (scanIn bytes)) (lists .sums .counts) (lists .cells .means) (lists .cells .qualities)
 
   -- a good record of at most 4,096 gates and 1,024 cells
   unfoldable pub sizedSheet : List ℕ
