@@ -18,7 +18,6 @@ use Rattle.placement.specs.declared.position.Position.{Position}
 use Rattle.placement.specs.Gate.{unlessRefused, placementOf, entryOf}
 use Rattle.placement.specs.Window.{windowOf, inSpan, inWindow, cellNumber, located, row, column}
 use Rattle.placement.proofs.Cells.{in-span-natural}
-use Rattle.remap.specs.declared.scan.ScanHead.{ScanHead}
 use Rattle.remap.specs.Gates.{isMeasured}
 use Rattle.remap.specs.Placed.{isInside, gatePlacement, gateValue, isPlaced, placedOf}
 use Rattle.remap.specs.Remap.{ledgerOf, filledLists}

@@ -1,13 +1,12 @@
 -- Document 01, "Ledger and cells" and demand 2: what holds of the lists that `remap` leaves of an accepted scan. Assumes nothing.
 use mathlib.Core.Path.{_≡_, ap, _∙_}
-use Prim.Native.Nat.{ℕ, _*_, _≤_, _<_}
+use Prim.Native.Nat.{ℕ, _≤_, _<_}
 use native.Mathlib.Nat.{mul-le-mul}
 use native.Mathlib.Omega.{arith}
 use denote.Triple.Both.{Both}
 use lib.ListN.{length, getD}
 use Rattle.arithmetic.specs.Places.{sumTo}
 use Rattle.arithmetic.proofs.Places.{table-at}
-use Rattle.placement.specs.Window.{windowOf}
 use Rattle.placement.proofs.AnswerLaws.{given-is, filled-is}
 use Rattle.remap.specs.declared.scan.Remapped.the-variants.{Done}
 use Rattle.remap.specs.Gates.{echoOf}
@@ -39,14 +38,14 @@ module _ (scan : Scan) (lists : Both Lists Lists) (remapped : Remaps scan lists 
   left = filled-is (lists .entry) not-refused (remapped .the-lists)
 
   -- the counts over the grid add up to the measured gates placed inside it
-  pub counts-are-placed : sumTo (λ cell. getD (lists .exit .sums .counts) cell 0) (length (lists .exit .sums .counts)) ≡ placedOf scan
-  counts-are-placed =
+  pub remapped-count-total : sumTo (λ cell. getD (lists .exit .sums .counts) cell 0) (length (lists .exit .sums .counts)) ≡ placedOf scan
+  remapped-count-total =
       let known = accepted-scan scan (lists .entry) not-refused in
       ap (λ (l : Lists). sumTo (λ cell. getD (l .sums .counts) cell 0) (length (l .sums .counts))) left
       ∙ placed-total scan (known .lengths .azimuths-length) (cells-most scan (lists .entry) known)
 
-  -- a mean that is not 65,535 lies between the least and greatest of the values that have a part in it
-  pub mean-is-between : (cell : ℕ) → cell < cellsOf (scan .head) → let mean = getD (lists .exit .cells .means) cell 0 in (mean ≡ 65535 → ⊥) → (least greatest : ℕ) → ((k : ℕ) → HasPart (lists .exit .ledger) (scan .values) (scan .qualities) (scan .head .weighting) cell k → (least ≤ echoOf (getD (scan .values) k 0)) × (echoOf (getD (scan .values) k 0) ≤ greatest)) → (least ≤ mean) × (mean ≤ greatest)
-  mean-is-between cell h =
+  -- a mean that is not 65,535 lies between the least and greatest contributing values, those with quality 0 left out by quality
+  pub remapped-mean-between : (cell : ℕ) → cell < cellsOf (scan .head) → let mean = getD (lists .exit .cells .means) cell 0 in (mean ≡ 65535 → ⊥) → (least greatest : ℕ) → ((k : ℕ) → HasPart (lists .exit .ledger) (scan .values) (scan .qualities) (scan .head .weighting) cell k → (least ≤ echoOf (getD (scan .values) k 0)) × (echoOf (getD (scan .values) k 0) ≤ greatest)) → (least ≤ mean) × (mean ≤ greatest)
+  remapped-mean-between cell h =
       rw (left, mean-at scan cell h)
       (λ ne least greatest bound. mean-between (filledLists scan .ledger) (scan .values) (scan .qualities) (scan .head .weighting) cell least greatest bound ne)
