@@ -1,5 +1,5 @@
-// Lines of a sheet, stored in a page one behind the other. Each function answers the place behind the last byte that it stored. A number
-// takes 20 digits at most.
+// Lines of a sheet, stored in a page one behind the other. Each function answers the place behind the last byte that it stored, and is
+// ours alone. A number takes 20 digits at most.
 use text::put_number;
 ghost use mathlib.Core.Path.{_≡_};
 ghost use Prim.Native.Nat.{_≤_, _+_};
@@ -104,7 +104,7 @@ fn total(counts: &[u32]) -> u64
     sum
 }
 
-// The measured gates that lie inside are those that some cell counts.
+// The measured gates that lie inside are those that some cell counts. There are at most 1,024 cells, so that 120,000 bytes hold all lines.
 pub fn put_sheet(
     page: &mut [u8; 120000],
     columns: u32,

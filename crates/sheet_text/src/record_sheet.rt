@@ -1,4 +1,4 @@
-// The sheet of a good record within the two sizes.
+// The sheet of a good record within the two sizes. The functions here are ours alone: record and sizes have been tested.
 use crate::lines::put_sheet;
 use remap::ScanHead;
 ghost use mathlib.Core.Bool.{true};
