@@ -49,6 +49,7 @@ module _ (bytes : List ℕ) (k : ℕ) where
       ∷ decimalOf (getD (qualitiesIn bytes) k 0)
       ∷ []
 
+  -- where the record is good and has that gate
   unfoldable pub goodLine : List ℕ
   goodLine =
       lineOf (

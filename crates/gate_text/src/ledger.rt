@@ -39,7 +39,7 @@ pub fn ledger_line(bytes: &[u8], k: usize, line: &mut [u8; 256]) -> usize
     }
 }
 
-// For our own crates: they have tested the record, once for all of its gates, and the gate.
+// The same without the tests. For our own crates: they have tested the record, once for all of its gates, and the gate.
 pub fn good_line(bytes: &[u8], k: usize, line: &mut [u8; 256]) -> usize
     requires { ⌜ (headRefusal (now bytes) ≡ 0) × (k < gatesOf (headIn (now bytes))) ⌝ }
     ensures { λ r. ⌜ r ≡ length (ledgerLine (now (bytes .entry)) k) ⌝ }
