@@ -1,6 +1,7 @@
 -- `sheet_text::lines::put_sheet` meets its contract. Assumes nothing.
-use Rattle.sheet_text.specs.SheetText.{sheetLines}
-use Rattle.text.proofs.StoredLaws.{stored-next}
+use mathlib.Core.Path.{ap}
+use Rattle.sheet_text.specs.SheetText.{topLines, sheetLines}
+use Rattle.text.proofs.StoredLaws.{stored-same, stored-next}
 use borrow.Author.Needs.{needs}
 use Rattle.sheet_text.proofs.lines.put_sheet.Statement.{statement}
 use Rattle.sheet_text.proofs.lines.put_sheet.Tie as tie
@@ -18,7 +19,7 @@ returns : tie.Need-returns
 unfolding sheetLines
 returns c =
     let cells = c .put-cells .ensures in
-    (cells .0, stored-next (rw (c .before .before .before .before .total .ensures) at (c .before .before .put-top .ensures .1)) (cells .1))
+    (cells .0, stored-next (stored-same (ap (topLines _ _ _) (c .before .before .before .before .total .ensures)) (c .before .before .put-top .ensures .1)) (cells .1))
 
 pub put-sheet-spec : {M : Type 1} → statement M
 put-sheet-spec = tie.close (tie.spec total-requires put-top-requires put-cells-requires returns)
