@@ -2,8 +2,9 @@
 use mathlib.Core.Bool.{true}
 use mathlib.Core.List.{List, [], _∷_, _++_}
 use mathlib.Core.Path.{_≡_, sym, subst}
-use Prim.Native.Nat.{ℕ, _+_, _*_, _/_, _%_, _≤_}
+use Prim.Native.Nat.{ℕ, _+_, _*_, _/_, _%_, _≤_, _<_}
 use native.Mathlib.Nat.{mod-lt}
+use borrow.Author.Tests.{eq-eqb, ne-eqb, lt-ltb, le-ltb}
 use lib.ListN.{getD}
 use Rattle.placement.specs.declared.gate.Placement.{Placement}
 use Rattle.placement.specs.declared.gate.Placement.the-variants.{Inside, Outside, Refused}
@@ -11,13 +12,14 @@ use Rattle.placement.specs.Gate.{placementOf}
 use Rattle.placement.specs.Window.{windowOf}
 use Rattle.placement.proofs.Accepted.{range-bounds}
 use Rattle.remap.specs.declared.scan.ScanHead.{ScanHead}
+use Rattle.remap.specs.Scan.{gatesOf}
 use Rattle.remap.proofs.AcceptedRemap.{centres-most}
 use Rattle.scan_record.specs.RecordPlaces.{headIn, azimuthsIn, valuesIn, qualitiesIn}
 use Rattle.scan_record.specs.RecordRefusal.{headRefusal}
 use Rattle.scan_record.proofs.AcceptedRecord.{record-numbers}
 use Rattle.text.specs.DecimalText.{decimalOf, lineOf, spaced}
 use Rattle.text.proofs.StoredLaws.{spaced-line}
-use Rattle.gate_text.specs.LedgerLine.{placementWords, rayOf, gateOf, azimuthOf, rangeOf, gateWords, ledgerLine}
+use Rattle.gate_text.specs.LedgerLine.{placementWords, rayOf, gateOf, azimuthOf, rangeOf, gateWords, goodLine, ledgerLine}
 
 pub record GoodHead (head : ScanHead) : Type 0 where
   pub gates-least : 1 ≤ head .gates
@@ -39,9 +41,23 @@ pub good-head : {head : ScanHead} (bytes : List ℕ) → head ≡ headIn bytes �
 good-head bytes e none = subst (λ (h : ScanHead). GoodHead h) (sym e) (head-good bytes none)
 
 module _ (bytes : List ℕ) (k : ℕ) {head : ScanHead} {azimuth value quality columns : ℕ} {placement : Placement} where
-  pub ledger-line-is : head ≡ headIn bytes → azimuth ≡ getD (azimuthsIn bytes) (k / head .gates) 0 → value ≡ getD (valuesIn bytes) k 0 → quality ≡ getD (qualitiesIn bytes) k 0 → columns ≡ windowOf (head .grid) .columns → placement ≡ placementOf (head .site) (head .grid) azimuth (head .first + k % head .gates * head .spacing) → lineOf ((decimalOf (k / head .gates) ∷ decimalOf (k % head .gates) ∷ decimalOf azimuth ∷ decimalOf (head .first + k % head .gates * head .spacing) ∷ decimalOf value ∷ decimalOf quality ∷ []) ++ placementWords columns placement) ≡ ledgerLine bytes k
-  unfolding rayOf gateOf azimuthOf rangeOf gateWords ledgerLine
-  ledger-line-is h a v q c p = rw (p, c, v, q, a, h)
+  pub good-line-is : head ≡ headIn bytes → azimuth ≡ getD (azimuthsIn bytes) (k / head .gates) 0 → value ≡ getD (valuesIn bytes) k 0 → quality ≡ getD (qualitiesIn bytes) k 0 → columns ≡ windowOf (head .grid) .columns → placement ≡ placementOf (head .site) (head .grid) azimuth (head .first + k % head .gates * head .spacing) → lineOf ((decimalOf (k / head .gates) ∷ decimalOf (k % head .gates) ∷ decimalOf azimuth ∷ decimalOf (head .first + k % head .gates * head .spacing) ∷ decimalOf value ∷ decimalOf quality ∷ []) ++ placementWords columns placement) ≡ goodLine bytes k
+  unfolding rayOf gateOf azimuthOf rangeOf gateWords goodLine
+  good-line-is h a v q c p = rw (p, c, v, q, a, h)
+
+-- which records and gates have a line
+module _ (bytes : List ℕ) (k : ℕ) where
+  pub refused-no-line : (headRefusal bytes ≡ 0 → ⊥) → [] ≡ ledgerLine bytes k
+  unfolding ledgerLine
+  refused-no-line h = rw (ne-eqb (headRefusal bytes) 0 h)
+
+  pub no-such-gate : headRefusal bytes ≡ 0 → gatesOf (headIn bytes) ≤ k → [] ≡ ledgerLine bytes k
+  unfolding ledgerLine
+  no-such-gate e h = rw (eq-eqb (headRefusal bytes) 0 e, le-ltb k (gatesOf (headIn bytes)) h)
+
+  pub line-of-gate : headRefusal bytes ≡ 0 → k < gatesOf (headIn bytes) → goodLine bytes k ≡ ledgerLine bytes k
+  unfolding ledgerLine
+  line-of-gate e h = rw (eq-eqb (headRefusal bytes) 0 e, lt-ltb k (gatesOf (headIn bytes)) h)
 
 -- what the record says of a gate, with a space behind each word, and where the gate lies
 pub placement-line : (front : List (List ℕ)) (columns : ℕ) (placement : Placement) → spaced front ++ lineOf (placementWords columns placement) ≡ lineOf (front ++ placementWords columns placement)

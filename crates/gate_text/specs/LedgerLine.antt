@@ -1,12 +1,16 @@
 -- The line of a gate: RAY GATE AZIMUTH RANGE VALUE QUALITY X Y COLUMN ROW, or the word outside for the last two. Assumes nothing.
+use mathlib.Core.Bool.{_&&_, cond}
 use mathlib.Core.List.{List, [], _∷_, _++_}
 use Prim.Native.Nat.{ℕ, _+_, _*_, _/_, _%_}
+use lib.Dec.{eqb, ltb}
 use lib.ListN.{getD}
 use Rattle.placement.specs.declared.gate.Placement.{Placement}
 use Rattle.placement.specs.declared.gate.Placement.the-variants.{Inside, Outside, Refused}
 use Rattle.placement.specs.Gate.{placementOf}
 use Rattle.placement.specs.Window.{windowOf}
+use Rattle.remap.specs.Scan.{gatesOf}
 use Rattle.scan_record.specs.RecordPlaces.{headIn, azimuthsIn, valuesIn, qualitiesIn}
+use Rattle.scan_record.specs.RecordRefusal.{headRefusal}
 use Rattle.text.specs.DecimalText.{decimalOf, signedDecimalOf, lineOf}
 use Rattle.text.specs.RefusedLine.{refusedWord}
 
@@ -45,8 +49,13 @@ module _ (bytes : List ℕ) (k : ℕ) where
       ∷ decimalOf (getD (qualitiesIn bytes) k 0)
       ∷ []
 
-  unfoldable pub ledgerLine : List ℕ
-  ledgerLine =
+  -- where the record is good and has that gate
+  unfoldable pub goodLine : List ℕ
+  goodLine =
       lineOf (
       gateWords
       ++ placementWords (windowOf (headIn bytes .grid) .columns) (placementOf (headIn bytes .site) (headIn bytes .grid) azimuthOf rangeOf))
+
+  -- a refused record, and one that has no such gate, has no line
+  unfoldable pub ledgerLine : List ℕ
+  ledgerLine = cond (eqb (headRefusal bytes) 0 && ltb k (gatesOf (headIn bytes))) goodLine []

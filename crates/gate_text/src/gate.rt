@@ -23,8 +23,7 @@ ghost use Rattle.gate_text.specs.GateText.{usageLine, answerWords, answe
 ghost use Rattle.gate_text.specs.PlacedColumns.{columnsThere};
 
 // Any words, each ended by a byte 0; words that give no gate are answered by the usage line.
-pub fn gate_text(words: &[u8], line: &mut [u8]) -> usize
-    requires { ⌜ 256 ≤ length (now line) ⌝ }
+pub fn gate_text(words: &[u8], line: &mut [u8; 256]) -> usize
     ensures { λ r. ⌜ r ≡ length (gateText (now (words .entry))) ⌝ }
     ensures bounded { λ r. ⌜ r ≤ 256 ⌝ }
     ensures { λ _. ⌜ now (line .exit) ≡ sets (now (line .entry)) 0 (gateText (now (words .entry))) ⌝ }
@@ -38,8 +37,7 @@ pub fn gate_text(words: &[u8], line: &mut [u8]) -> usize
     put_usage(line)
 }
 
-fn put_usage(line: &mut [u8]) -> usize
-    requires { ⌜ 256 ≤ length (now line) ⌝ }
+fn put_usage(line: &mut [u8; 256]) -> usize
     ensures { λ r. ⌜ Stored (now (line .entry)) 0 usageLine r (now (line .exit)) ⌝ }
     ensures bounded { λ r. ⌜ r ≤ 256 ⌝ }
 {
@@ -51,8 +49,7 @@ fn put_usage(line: &mut [u8]) -> usize
 }
 
 // The placement of the gate that the words give, on that grid.
-fn put_given(words: &[u8], grid: Grid, line: &mut [u8]) -> usize
-    requires { ⌜ 256 ≤ length (now line) ⌝ }
+fn put_given(words: &[u8], grid: Grid, line: &mut [u8; 256]) -> usize
     ensures { λ r. ⌜ Stored (now (line .entry)) 0 (answerText (now (words .entry)) grid) r (now (line .exit)) ⌝ }
     ensures bounded { λ r. ⌜ r ≤ 256 ⌝ }
 {
@@ -66,8 +63,8 @@ fn put_given(words: &[u8], grid: Grid, line: &mut [u8]) -> usize
     )
 }
 
-fn put_answer(line: &mut [u8], columns: u32, placement: Placement) -> usize
-    requires { ⌜ (256 ≤ length (now line)) × (columnsThere columns placement ≡ true) ⌝ }
+fn put_answer(line: &mut [u8; 256], columns: u32, placement: Placement) -> usize
+    requires { ⌜ columnsThere columns placement ≡ true ⌝ }
     ensures { λ r. ⌜ Stored (now (line .entry)) 0 (lineOf (answerWords columns placement)) r (now (line .exit)) ⌝ }
     ensures bounded { λ r. ⌜ r ≤ 256 ⌝ }
 {
@@ -78,8 +75,8 @@ fn put_answer(line: &mut [u8], columns: u32, placement: Placement) -> usize
     }
 }
 
-fn answer_inside(line: &mut [u8], columns: u32, cell: u32, x: i64, y: i64) -> usize
-    requires { ⌜ (256 ≤ length (now line)) × (1 ≤ columns) ⌝ }
+fn answer_inside(line: &mut [u8; 256], columns: u32, cell: u32, x: i64, y: i64) -> usize
+    requires { ⌜ 1 ≤ columns ⌝ }
     ensures { λ r. ⌜ Stored (now (line .entry)) 0 (lineOf (answerWords columns (Inside cell x y))) r (now (line .exit)) ⌝ }
     ensures bounded { λ r. ⌜ r ≤ 256 ⌝ }
 {
@@ -91,8 +88,7 @@ fn answer_inside(line: &mut [u8], columns: u32, cell: u32, x: i64, y: i64) -> us
     put_number(line, after_row, cell as u64, 10)
 }
 
-fn answer_outside(line: &mut [u8], x: i64, y: i64) -> usize
-    requires { ⌜ 256 ≤ length (now line) ⌝ }
+fn answer_outside(line: &mut [u8; 256], x: i64, y: i64) -> usize
     ensures { λ r. ⌜ Stored (now (line .entry)) 0 (lineOf (answerWords 0 (Outside x y))) r (now (line .exit)) ⌝ }
     ensures bounded { λ r. ⌜ r ≤ 256 ⌝ }
 {

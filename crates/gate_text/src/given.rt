@@ -1,4 +1,4 @@
-// The numbers that the words give.
+// The numbers that the words give. Each function here is ours alone: a gate is given in at most 10 words.
 use crate::words::same_word;
 use crate::words::word;
 use crate::words::word_start;

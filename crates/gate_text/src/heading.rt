@@ -5,8 +5,7 @@ ghost use lib.ListN.{length};
 ghost use lib.Seq.{sets};
 ghost use Rattle.gate_text.specs.LedgerHeading.{ledgerHeading};
 
-pub fn ledger_heading(line: &mut [u8]) -> usize
-    requires { ⌜ 256 ≤ length (now line) ⌝ }
+pub fn ledger_heading(line: &mut [u8; 256]) -> usize
     ensures { λ r. ⌜ r ≡ length ledgerHeading ⌝ }
     ensures bounded { λ r. ⌜ r ≤ 256 ⌝ }
     ensures { λ _. ⌜ now (line .exit) ≡ sets (now (line .entry)) 0 ledgerHeading ⌝ }

@@ -1,6 +1,7 @@
 // The line of one gate of a record: ray, gate, azimuth, range, value, quality, X, Y, then column and row or the word `outside`.
 use crate::columns::columns_of;
 use placement::Placement;
+use scan_record::ReadScan;
 use text::put_integer;
 use text::put_number;
 use text::put_refused;
@@ -20,9 +21,27 @@ ghost use Rattle.text.specs.StoredText.{Stored};
 ghost use Rattle.gate_text.specs.LedgerLine.{placementWords, ledgerLine};
 ghost use Rattle.gate_text.specs.PlacedColumns.{columnsThere};
 
-// Gate k of a good record, gates numbered ray by ray.
-pub fn ledger_line(bytes: &[u8], k: usize, line: &mut [u8]) -> usize
-    requires { ⌜ (headRefusal (now bytes) ≡ 0) × (k < gatesOf (headIn (now bytes))) × (256 ≤ length (now line)) ⌝ }
+// Any bytes and any gate, gates numbered ray by ray. A refused record, or one that has no such gate, is answered by 0, and the line
+// stays as it was.
+pub fn ledger_line(bytes: &[u8], k: usize, line: &mut [u8; 256]) -> usize
+    ensures { λ r. ⌜ r ≡ length (ledgerLine (now (bytes .entry)) k) ⌝ }
+    ensures bounded { λ r. ⌜ r ≤ 256 ⌝ }
+    ensures { λ _. ⌜ now (line .exit) ≡ sets (now (line .entry)) 0 (ledgerLine (now (bytes .entry)) k) ⌝ }
+{
+    match scan_record::read_head(bytes) {
+        ReadScan::Refused(_) => 0,
+        ReadScan::Head(head) => {
+            if remap::gates_of(head) <= k {
+                return 0;
+            }
+            good_line(bytes, k, line)
+        }
+    }
+}
+
+// The same without the tests. For our own crates: they have tested the record, once for all of its gates, and the gate.
+pub fn good_line(bytes: &[u8], k: usize, line: &mut [u8; 256]) -> usize
+    requires { ⌜ (headRefusal (now bytes) ≡ 0) × (k < gatesOf (headIn (now bytes))) ⌝ }
     ensures { λ r. ⌜ r ≡ length (ledgerLine (now (bytes .entry)) k) ⌝ }
     ensures bounded { λ r. ⌜ r ≤ 256 ⌝ }
     ensures { λ _. ⌜ now (line .exit) ≡ sets (now (line .entry)) 0 (ledgerLine (now (bytes .entry)) k) ⌝ }
@@ -47,7 +66,7 @@ pub fn ledger_line(bytes: &[u8], k: usize, line: &mut [u8]) -> usize
 
 // What the record says of a gate; a space behind each.
 fn put_gate(
-    line: &mut [u8],
+    line: &mut [u8; 256],
     ray: usize,
     gate: usize,
     azimuth: u32,
@@ -55,7 +74,6 @@ fn put_gate(
     value: u16,
     quality: u8,
 ) -> usize
-    requires { ⌜ 126 ≤ length (now line) ⌝ }
     ensures { λ r. ⌜ Stored (now (line .entry)) 0 (spaced (decimalOf ray ∷ decimalOf gate ∷ decimalOf azimuth ∷ decimalOf range ∷ decimalOf value ∷ decimalOf quality ∷ [])) r (now (line .exit)) ⌝ }
     ensures bounded { λ r. ⌜ r ≤ 126 ⌝ }
 {
@@ -68,8 +86,8 @@ fn put_gate(
 }
 
 // Where a gate lies. A gate of a good record is never refused (proofs/NeverRefused.antt).
-fn put_place(line: &mut [u8], at: usize, columns: u32, placement: Placement) -> usize
-    requires { ⌜ (at + 84 ≤ length (now line)) × (columnsThere columns placement ≡ true) ⌝ }
+fn put_place(line: &mut [u8; 256], at: usize, columns: u32, placement: Placement) -> usize
+    requires { ⌜ (at ≤ 126) × (columnsThere columns placement ≡ true) ⌝ }
     ensures { λ r. ⌜ Stored (now (line .entry)) at (lineOf (placementWords columns placement)) r (now (line .exit)) ⌝ }
     ensures bounded { λ r. ⌜ r ≤ at + 84 ⌝ }
 {
@@ -80,8 +98,8 @@ fn put_place(line: &mut [u8], at: usize, columns: u32, placement: Placement) -> 
     }
 }
 
-fn put_inside(line: &mut [u8], at: usize, columns: u32, cell: u32, x: i64, y: i64) -> usize
-    requires { ⌜ (at + 84 ≤ length (now line)) × (1 ≤ columns) ⌝ }
+fn put_inside(line: &mut [u8; 256], at: usize, columns: u32, cell: u32, x: i64, y: i64) -> usize
+    requires { ⌜ (at ≤ 126) × (1 ≤ columns) ⌝ }
     ensures { λ r. ⌜ Stored (now (line .entry)) at (lineOf (placementWords columns (Inside cell x y))) r (now (line .exit)) ⌝ }
     ensures bounded { λ r. ⌜ r ≤ at + 84 ⌝ }
 {
@@ -91,8 +109,8 @@ fn put_inside(line: &mut [u8], at: usize, columns: u32, cell: u32, x: i64, y: i6
     put_number(line, after_column, (cell / columns) as u64, 10)
 }
 
-fn put_outside(line: &mut [u8], at: usize, x: i64, y: i64) -> usize
-    requires { ⌜ at + 84 ≤ length (now line) ⌝ }
+fn put_outside(line: &mut [u8; 256], at: usize, x: i64, y: i64) -> usize
+    requires { ⌜ at ≤ 126 ⌝ }
     ensures { λ r. ⌜ Stored (now (line .entry)) at (lineOf (placementWords 0 (Outside x y))) r (now (line .exit)) ⌝ }
     ensures bounded { λ r. ⌜ r ≤ at + 84 ⌝ }
 {

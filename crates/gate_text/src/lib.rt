@@ -1,13 +1,12 @@
-// A record's gates as lines of text with a heading, a record's refusal, and one gate given in words.
+// A record's gates as lines of text with a heading, and one gate given in words.
 mod columns;
 mod gate;
 mod given;
 mod heading;
 mod ledger;
-mod refused;
 mod words;
 
 pub use gate::gate_text;
 pub use heading::ledger_heading;
+pub use ledger::good_line;
 pub use ledger::ledger_line;
-pub use refused::refused_line;

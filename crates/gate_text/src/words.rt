@@ -1,4 +1,5 @@
-// Words given one behind the other, each ended by a byte 0, counted from 0.
+// Words given one behind the other, each ended by a byte 0, counted from 0. Each function here is ours alone: at most 10 words are
+// looked for.
 ghost use mathlib.Core.Path.{_≡_};
 ghost use Prim.Native.Nat.{_≤_, _+_, max};
 ghost use lib.ListN.{length, drop};

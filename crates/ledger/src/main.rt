@@ -27,7 +27,7 @@ fn print_ledger(bytes: &[u8]) {
 
 fn print_refusal(number: u32) {
     let mut line = [0u8; 256];
-    let n = gate_text::refused_line(number, &mut line);
+    let n = text::put_refused(&mut line, 0, number);
     io::write_all(STDOUT_FILENO, &line[..n]);
 }
 
@@ -52,6 +52,6 @@ fn print_line(bytes: &[u8], k: usize)
     requires { ⌜ (headRefusal (now bytes) ≡ 0) × (k < gatesOf (headIn (now bytes))) ⌝ }
 {
     let mut line = [0u8; 256];
-    let n = gate_text::ledger_line(bytes, k, &mut line);
+    let n = gate_text::good_line(bytes, k, &mut line);
     io::write_all(STDOUT_FILENO, &line[..n]);
 }

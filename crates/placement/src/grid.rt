@@ -65,6 +65,7 @@ pub fn sphere_of(grid: Grid) -> Sphere
     }
 }
 
+// For our own crates: they have tested the grid.
 pub fn window_of(grid: Grid) -> Window
     requires { ⌜ gridAccepted grid ≡ true ⌝ }
     ensures { λ r. ⌜ r ≡ windowOf grid ⌝ }

@@ -1,20 +1,16 @@
 -- Which text is printed: too large, refused, or the sheet. Assumes nothing.
 use mathlib.Core.Path.{_≡_, refl, sym, ap, _∙_}
-use mathlib.Core.List.{List, _++_}
+use mathlib.Core.List.{List}
 use Prim.Native.Nat.{ℕ, zero, suc, _≤_, _<_}
-use native.Mathlib.Nat.{zero-add}
-use native.Mathlib.Omega.{arith}
 use borrow.Author.Tests.{le-leb, lt-leb}
-use lib.ListN.{length, drop}
+use lib.ListN.{length}
 use Rattle.placement.specs.Answer.{refuses, answered}
 use Rattle.placement.proofs.AnswerLaws.{refused-is}
 use Rattle.remap.specs.declared.scan.ScanHead.{ScanHead}
 use Rattle.remap.specs.Scan.{gatesOf, cellsOf}
 use Rattle.scan_record.specs.RecordPlaces.{headIn}
 use Rattle.scan_record.specs.RecordRefusal.{headRefusal}
-use Rattle.arithmetic.proofs.SetsLaws.{sets-start}
 use Rattle.text.specs.RefusedLine.{refusedLine}
-use Rattle.text.specs.StoredText.{Stored}
 use Rattle.sheet_text.specs.SheetText.{tooLarge, refusedOr, goodSheet, sizedSheet, sheetText}
 
 -- ---- the two sizes
@@ -52,16 +48,3 @@ is-refused bytes n h e =
 pub is-sized : (bytes : List ℕ) → length bytes ≤ 16384 → headRefusal bytes ≡ 0 → sizedSheet bytes ≡ sheetText bytes
 unfolding sheetText refusedOr
 is-sized bytes h e = rw (le-leb (length bytes) 16384 h, e)
-
--- ---- a text stored from the start on
-
-pub record Printed (before after : List ℕ) (next : ℕ) (text : List ℕ) : Type 0 where
-  pub the-length : next ≡ length text
-  pub the-page : after ≡ text ++ drop (length text) before
-
-pub printed : {before after : List ℕ} {next : ℕ} {text whole : List ℕ} → next ≤ 120000 → 120000 ≤ length before → text ≡ whole → Stored before 0 text next after → Printed before after next whole
-printed {before} {after} {next} {text} {whole} h i e s =
-    rw (sym e) (record {
-      the-length = s .the-end ∙ zero-add (length text);
-      the-page = s .the-bytes ∙ sets-start before text (omega (arith, s .the-end));
-    })

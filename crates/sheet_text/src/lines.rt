@@ -1,5 +1,5 @@
-// Lines of a sheet, stored in a page one behind the other. Each function answers the place behind the last byte that it stored. A number
-// takes 20 digits at most.
+// Lines of a sheet, stored in a page one behind the other. Each function answers the place behind the last byte that it stored, and is
+// ours alone. A number takes 20 digits at most.
 use text::put_number;
 ghost use mathlib.Core.Path.{_≡_};
 ghost use Prim.Native.Nat.{_≤_, _+_};
@@ -8,8 +8,7 @@ ghost use Rattle.arithmetic.specs.Places.{sumTo};
 ghost use Rattle.text.specs.StoredText.{Stored};
 ghost use Rattle.sheet_text.specs.SheetText.{topLines, cellLine, cellLines, sheetLines, tooLarge};
 
-pub fn put_too_large(page: &mut [u8]) -> usize
-    requires { ⌜ 120000 ≤ length (now page) ⌝ }
+pub fn put_too_large(page: &mut [u8; 120000]) -> usize
     ensures { λ r. ⌜ r ≤ 120000 ⌝ }
     ensures { λ r. ⌜ Stored (now (page .entry)) 0 tooLarge r (now (page .exit)) ⌝ }
 {
@@ -17,8 +16,7 @@ pub fn put_too_large(page: &mut [u8]) -> usize
 }
 
 // The two lines above the cells.
-fn put_top(page: &mut [u8], columns: u64, rows: u64, gates: u64, placed: u64) -> usize
-    requires { ⌜ 102 ≤ length (now page) ⌝ }
+fn put_top(page: &mut [u8; 120000], columns: u64, rows: u64, gates: u64, placed: u64) -> usize
     ensures { λ r. ⌜ r ≤ 102 ⌝ }
     ensures { λ r. ⌜ Stored (now (page .entry)) 0 (topLines columns rows gates placed) r (now (page .exit)) ⌝ }
 {
@@ -33,7 +31,7 @@ fn put_top(page: &mut [u8], columns: u64, rows: u64, gates: u64, placed: u64) ->
 
 // The line of a cell: column, row, mean, quality, count.
 fn put_cell(
-    page: &mut [u8],
+    page: &mut [u8; 120000],
     at: usize,
     columns: usize,
     cell: usize,
@@ -41,7 +39,7 @@ fn put_cell(
     quality: u8,
     count: u32,
 ) -> usize
-    requires { ⌜ (1 ≤ columns) × (at + 105 ≤ length (now page)) ⌝ }
+    requires { ⌜ (1 ≤ columns) × (at + 105 ≤ 120000) ⌝ }
     ensures { λ r. ⌜ r ≤ at + 105 ⌝ }
     ensures { λ r. ⌜ Stored (now (page .entry)) at (cellLine columns cell mean quality count) r (now (page .exit)) ⌝ }
 {
@@ -54,14 +52,14 @@ fn put_cell(
 
 // Each cell with a count, south to north, west to east.
 fn put_cells(
-    page: &mut [u8],
+    page: &mut [u8; 120000],
     at: usize,
     columns: usize,
     counts: &[u32],
     means: &[u16],
     qualities: &[u8],
 ) -> usize
-    requires { ⌜ (1 ≤ columns) × (at ≤ 102) × (length (now counts) ≤ 1024) × (length (now means) ≡ length (now counts)) × (length (now qualities) ≡ length (now counts)) × (120000 ≤ length (now page)) ⌝ }
+    requires { ⌜ (1 ≤ columns) × (at ≤ 102) × (length (now counts) ≤ 1024) × (length (now means) ≡ length (now counts)) × (length (now qualities) ≡ length (now counts)) ⌝ }
     ensures { λ r. ⌜ r ≤ 120000 ⌝ }
     ensures { λ r. ⌜ Stored (now (page .entry)) at (cellLines columns (now (counts .entry)) (now (means .entry)) (now (qualities .entry)) (length (now (counts .entry)))) r (now (page .exit)) ⌝ }
 {
@@ -106,9 +104,9 @@ fn total(counts: &[u32]) -> u64
     sum
 }
 
-// The measured gates that lie inside are those that some cell counts.
+// The measured gates that lie inside are those that some cell counts. There are at most 1,024 cells, so that 120,000 bytes hold all lines.
 pub fn put_sheet(
-    page: &mut [u8],
+    page: &mut [u8; 120000],
     columns: u32,
     rows: u32,
     gates: usize,
@@ -116,7 +114,7 @@ pub fn put_sheet(
     means: &[u16],
     qualities: &[u8],
 ) -> usize
-    requires { ⌜ (1 ≤ columns) × (length (now counts) ≤ 1024) × (length (now means) ≡ length (now counts)) × (length (now qualities) ≡ length (now counts)) × (120000 ≤ length (now page)) ⌝ }
+    requires { ⌜ (1 ≤ columns) × (length (now counts) ≤ 1024) × (length (now means) ≡ length (now counts)) × (length (now qualities) ≡ length (now counts)) ⌝ }
     ensures { λ r. ⌜ r ≤ 120000 ⌝ }
     ensures { λ r. ⌜ Stored (now (page .entry)) 0 (sheetLines columns rows gates (sumTo (λ k. getD (now (counts .entry)) k 0) (length (now (counts .entry)))) (now (counts .entry)) (now (means .entry)) (now (qualities .entry))) r (now (page .exit)) ⌝ }
 {

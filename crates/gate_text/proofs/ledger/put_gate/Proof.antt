@@ -22,11 +22,8 @@ put-number-requires-5 c κs = search needs
 put-number-requires-6 : tie.Need-put-number-requires-6
 put-number-requires-6 c κs = search needs
 
-same-length : tie.Need-same-length
-same-length c = search needs
-
 returns : tie.Need-returns
-returns c = (spaced-before _ _ (c .before .before .before .before .before .before .before .before .before .before .before .before .before .before .before .before .before .before .before .before .before .before .put-number .ensures .0) (spaced-before _ _ (c .before .before .before .before .before .before .before .before .before .before .before .before .before .before .before .before .before .before .put-number2 .ensures .0) (spaced-before _ _ (c .before .before .before .before .before .before .before .before .before .before .before .before .before .before .put-number3 .ensures .0) (spaced-before _ _ (c .before .before .before .before .before .before .before .before .before .before .put-number4 .ensures .0) (spaced-before _ _ (c .before .before .before .before .before .before .put-number5 .ensures .0) (spaced-last _ (c .before .before .put-number6 .ensures .0)))))), search needs)
+returns c = (spaced-before _ _ (c .before .before .before .before .before .before .before .before .before .before .put-number .ensures .0) (spaced-before _ _ (c .before .before .before .before .before .before .before .before .put-number2 .ensures .0) (spaced-before _ _ (c .before .before .before .before .before .before .put-number3 .ensures .0) (spaced-before _ _ (c .before .before .before .before .put-number4 .ensures .0) (spaced-before _ _ (c .before .before .put-number5 .ensures .0) (spaced-last _ (c .put-number6 .ensures .0)))))), search needs)
 
 pub put-gate-spec : {M : Type 1} → statement M
 put-gate-spec =
@@ -38,5 +35,4 @@ put-gate-spec =
     put-number-requires-4
     put-number-requires-5
     put-number-requires-6
-    same-length
     returns)

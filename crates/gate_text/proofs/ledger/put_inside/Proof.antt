@@ -18,7 +18,7 @@ rem-put-number : tie.Need-rem-put-number
 rem-put-number c = search needs
 
 cast-put-number : tie.Need-cast-put-number
-cast-put-number c = record { fits = omega (arith, mod-lt (c .before .before .before .before .before .before .before .before .before .before .args .cell) (c .before .before .before .before .before .before .before .before .before .before .pre .1), c .before .before .before .before .before .before .before .before .before .before .fits .columns) }
+cast-put-number c = record { fits = omega (arith, mod-lt (c .before .before .before .before .before .args .cell) (c .before .before .before .before .before .pre .1), c .before .before .before .before .before .fits .columns) }
 
 put-number-requires : tie.Need-put-number-requires
 put-number-requires c κs = search needs
@@ -27,17 +27,18 @@ div-put-number : tie.Need-div-put-number
 div-put-number c = search needs
 
 cast-put-number-2 : tie.Need-cast-put-number-2
-cast-put-number-2 c = record { fits = omega (arith, div-le-self (c .before .before .before .before .before .before .before .before .before .before .before .before .before .before .args .cell) (c .before .before .before .before .before .before .before .before .before .before .before .before .before .before .args .columns), c .before .before .before .before .before .before .before .before .before .before .before .before .before .before .fits .cell) }
+cast-put-number-2 c = record { fits = omega (arith, div-le-self (c .before .before .before .before .before .before .before .args .cell) (c .before .before .before .before .before .before .before .args .columns), c .before .before .before .before .before .before .before .fits .cell) }
 
 put-number-requires-2 : tie.Need-put-number-requires-2
 put-number-requires-2 c κs = search needs
 
-same-length : tie.Need-same-length
-same-length c = search needs
-
 returns : tie.Need-returns
 unfolding placementWords
-returns c = (line-before _ _ _ (rw (toZ-ofZ (c .before .before .before .before .before .before .before .before .before .before .before .before .before .before .before .before .before .fits .x)) at (c .before .before .before .before .before .before .before .before .before .before .before .before .before .before .put-integer .ensures .0)) (line-before _ _ _ (rw (toZ-ofZ (c .before .before .before .before .before .before .before .before .before .before .before .before .before .before .before .before .before .fits .y)) at (c .before .before .before .before .before .before .before .before .before .before .put-integer2 .ensures .0)) (line-before _ _ _ (c .before .before .before .before .before .before .put-number .ensures .0) (line-last _ (c .before .before .put-number2 .ensures .0)))), search needs)
+returns c =
+    let fits = c .before .before .before .before .before .before .before .before .fits in (
+      line-before _ _ _ (rw (toZ-ofZ (fits .x)) at (c .before .before .before .before .before .before .put-integer .ensures .0)) (line-before _ _ _ (rw (toZ-ofZ (fits .y)) at (c .before .before .before .before .put-integer2 .ensures .0)) (line-before _ _ _ (c .before .before .put-number .ensures .0) (line-last _ (c .put-number2 .ensures .0)))),
+      search needs,
+    )
 
 pub put-inside-spec : {M : Type 1} → statement M
 put-inside-spec =
@@ -51,5 +52,4 @@ put-inside-spec =
     div-put-number
     cast-put-number-2
     put-number-requires-2
-    same-length
     returns)

@@ -19,12 +19,16 @@ slice-aggregate-put-text c = search needs
 put-text-requires : tie.Need-put-text-requires
 put-text-requires c κs = search needs
 
-same-length : tie.Need-same-length
-same-length c = search needs
-
 returns : tie.Need-returns
 unfolding placementWords outsideWord
-returns c = (line-before _ _ _ (rw (toZ-ofZ (c .before .before .before .before .before .before .before .before .before .before .before .before .before .before .fits .x)) at (c .before .before .before .before .before .before .before .before .before .before .before .put-integer .ensures .0)) (line-before _ _ _ (rw (toZ-ofZ (c .before .before .before .before .before .before .before .before .before .before .before .before .before .before .fits .y)) at (c .before .before .before .before .before .before .before .put-integer2 .ensures .0)) (line-last _ (c .before .before .put-text .ensures))), omega (arith, c .before .before .before .before .before .before .before .before .before .before .before .put-integer .ensures .1, c .before .before .before .before .before .before .before .put-integer2 .ensures .1, c .before .before .put-text .ensures .the-end))
+returns c =
+    let x = c .before .before .before .before .before .put-integer .ensures in
+    let y = c .before .before .before .put-integer2 .ensures in
+    let word = c .put-text .ensures in
+    let fits = c .before .before .before .before .before .before .before .fits in (
+      line-before _ _ _ (rw (toZ-ofZ (fits .x)) at (x .0)) (line-before _ _ _ (rw (toZ-ofZ (fits .y)) at (y .0)) (line-last _ word)),
+      omega (arith, x .1, y .1, word .the-end),
+    )
 
 pub put-outside-spec : {M : Type 1} → statement M
 put-outside-spec =
@@ -34,5 +38,4 @@ put-outside-spec =
     put-integer-requires-2
     slice-aggregate-put-text
     put-text-requires
-    same-length
     returns)

@@ -17,7 +17,7 @@ enum-known-placement c = search needs
 
 put-inside-requires : tie.Need-put-inside-requires
 unfolding columnsThere
-put-inside-requires c κs = (search needs, leb-true 1 _ (ap (columnsThere (c .before .before .before .before .before .args .columns)) (sym (c .before .before .placement .given .1)) ∙ c .before .before .before .before .before .pre .1))
+put-inside-requires c κs = (search needs, leb-true 1 _ (ap (columnsThere (c .before .before .before .before .args .columns)) (sym (c .before .before .placement .given .1)) ∙ c .before .before .before .before .pre .1))
 
 enum-known-placement-2 : tie.Need-enum-known-placement-2
 enum-known-placement-2 c = search needs
@@ -31,25 +31,26 @@ enum-known-placement-3 c = search needs
 put-refused-requires : tie.Need-put-refused-requires
 put-refused-requires c κs = search needs
 
-same-length : tie.Need-same-length
-same-length c = search needs
-
 returns : tie.Need-returns
-returns c = let x : SFits w64 (c .before .before .before .before .before .placement .given .0 .1 .0) = record { sfits = c .before .before .before .before .known-told .given .1 .0 .1 } in let y : SFits w64 (c .before .before .before .before .before .placement .given .0 .1 .1 .0) = record { sfits = c .before .before .before .before .known-told .given .1 .1 .0 .1 } in rw (c .before .before .before .before .before .placement .given .1) (rw (toZ-ofZ x, toZ-ofZ y) at (c .before .before .put-inside .ensures .0), c .before .before .put-inside .ensures .1)
-
-same-length-2 : tie.Need-same-length-2
-same-length-2 c = search needs
+returns c =
+    let fields = c .before .before .before .placement .given .0 in
+    let told = c .before .before .known-told .given in
+    let x : SFits w64 (fields .1 .0) = record { sfits = told .1 .0 .1 } in
+    let y : SFits w64 (fields .1 .1 .0) = record { sfits = told .1 .1 .0 .1 } in
+    rw (c .before .before .before .placement .given .1) (rw (toZ-ofZ x, toZ-ofZ y) at (c .put-inside .ensures .0), c .put-inside .ensures .1)
 
 returns-2 : tie.Need-returns-2
 unfolding placementWords
-returns-2 c = let x : SFits w64 (c .before .before .before .before .before .placement2 .given .0 .0) = record { sfits = c .before .before .before .before .known-told2 .given .0 .1 } in let y : SFits w64 (c .before .before .before .before .before .placement2 .given .0 .1 .0) = record { sfits = c .before .before .before .before .known-told2 .given .1 .0 .1 } in rw (c .before .before .before .before .before .placement2 .given .1) (rw (toZ-ofZ x, toZ-ofZ y) at (c .before .before .put-outside .ensures .0), c .before .before .put-outside .ensures .1)
-
-same-length-3 : tie.Need-same-length-3
-same-length-3 c = search needs
+returns-2 c =
+    let fields = c .before .before .before .placement2 .given .0 in
+    let told = c .before .before .known-told2 .given in
+    let x : SFits w64 (fields .0) = record { sfits = told .0 .1 } in
+    let y : SFits w64 (fields .1 .0) = record { sfits = told .1 .0 .1 } in
+    rw (c .before .before .before .placement2 .given .1) (rw (toZ-ofZ x, toZ-ofZ y) at (c .put-outside .ensures .0), c .put-outside .ensures .1)
 
 returns-3 : tie.Need-returns-3
 unfolding placementWords refusedLine
-returns-3 c = rw (c .before .before .before .before .before .placement3 .given .1) (c .before .before .put-refused .ensures .0, omega (arith, c .before .before .put-refused .ensures .1))
+returns-3 c = rw (c .before .before .before .placement3 .given .1) (c .put-refused .ensures .0, omega (arith, c .put-refused .ensures .1))
 
 pub put-place-spec : {M : Type 1} → statement M
 put-place-spec =
@@ -61,9 +62,6 @@ put-place-spec =
     put-outside-requires
     enum-known-placement-3
     put-refused-requires
-    same-length
     returns
-    same-length-2
     returns-2
-    same-length-3
     returns-3)

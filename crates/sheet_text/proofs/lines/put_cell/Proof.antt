@@ -27,17 +27,14 @@ put-number-requires-4 c κs = search needs
 put-number-requires-5 : tie.Need-put-number-requires-5
 put-number-requires-5 c κs = search needs
 
-same-length : tie.Need-same-length
-same-length c = search needs
-
 returns : tie.Need-returns
 unfolding cellLine
 returns c =
-    let a = c .before .before .before .before .before .before .before .before .before .before .before .before .before .before .before .before .before .before .put-number .ensures in
-    let b = c .before .before .before .before .before .before .before .before .before .before .before .before .before .before .put-number2 .ensures in
-    let c′ = c .before .before .before .before .before .before .before .before .before .before .put-number3 .ensures in
-    let d = c .before .before .before .before .before .before .put-number4 .ensures in
-    let e = c .before .before .put-number5 .ensures in (
+    let a = c .before .before .before .before .before .before .before .before .put-number .ensures in
+    let b = c .before .before .before .before .before .before .put-number2 .ensures in
+    let c′ = c .before .before .before .before .put-number3 .ensures in
+    let d = c .before .before .put-number4 .ensures in
+    let e = c .put-number5 .ensures in (
       omega (arith, a .1, b .1, c′ .1, d .1, e .1),
       line-before _ _ _ (a .0) (line-before _ _ _ (b .0) (line-before _ _ _ (c′ .0) (line-before _ _ _ (d .0) (line-last _ (e .0))))),
     )
@@ -53,5 +50,4 @@ put-cell-spec =
     put-number-requires-3
     put-number-requires-4
     put-number-requires-5
-    same-length
     returns)

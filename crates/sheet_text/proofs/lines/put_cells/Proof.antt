@@ -1,5 +1,4 @@
 -- `sheet_text::lines::put_cells` meets its contract: the lines of the first cells stand behind what was there. Assumes nothing.
-use mathlib.Core.Path.{_≡_}
 use Prim.Native.Nat.{_+_, _*_, _-_, _≤_}
 use native.Mathlib.Nat.{le-antisymm}
 use native.Mathlib.Omega.{arith}
@@ -14,14 +13,14 @@ use Rattle.sheet_text.proofs.lines.put_cells.Tie as tie
 
 abbrev Inv-loop : tie.InvT-loop
 Inv-loop page₀ at columns counts means qualities next₀ cell₀ page next cell =
-    (cell ≤ length counts) × (length page ≡ length page₀) × (next ≤ at + 105 * cell) × Stored page₀ at (cellLines columns counts means qualities cell) next page
+    (cell ≤ length counts) × (next ≤ at + 105 * cell) × Stored page₀ at (cellLines columns counts means qualities cell) next page
 
 abbrev μ-loop : tie.MeasureT-loop
 μ-loop page₀ at columns counts means qualities next₀ cell₀ page next cell = length counts - cell
 
 loop-holds : tie.Need-loop-holds Inv-loop μ-loop
 unfolding cellLines
-loop-holds c = (search needs, search needs, search needs, stored-none)
+loop-holds c = (search needs, search needs, stored-none)
 
 mul-if1 : tie.Need-mul-if1 Inv-loop μ-loop
 mul-if1 c = search needs
@@ -37,8 +36,8 @@ loop-less c = search needs
 
 loop-again : tie.Need-loop-again Inv-loop μ-loop
 loop-again c =
-    let loop = c .before .before .before in
-    (search needs, search needs, search needs, stored-same (cell-empty _ _ _ _ (loop .loop .cell) (c .if1 .taken)) (loop .loop .inv .3))
+    let loop = c .before .before .before .loop in
+    (search needs, search needs, stored-same (cell-empty _ _ _ _ (loop .cell) (c .if1 .taken)) (loop .inv .2))
 
 mul-put-cell : tie.Need-mul-put-cell Inv-loop μ-loop
 mul-put-cell c = search needs
@@ -66,22 +65,17 @@ loop-less-2 c = search needs
 
 loop-again-2 : tie.Need-loop-again-2 Inv-loop μ-loop
 loop-again-2 c =
-    let put = c .before .before in
-    let turn = put .before .before .before .before .before in
-    let loop = turn .before .before .before in (
+    let put = c .put-cell .ensures in
+    let loop = c .before .before .before .before .before .before .before .before .loop in (
       search needs,
-      search needs,
-      omega (arith, put .put-cell .ensures .0, loop .loop .inv .2),
-      stored-same (cell-counted _ _ _ _ (loop .loop .cell) (turn .if1 .left)) (stored-next (loop .loop .inv .3) (put .put-cell .ensures .1)),
+      omega (arith, put .0, loop .inv .1),
+      stored-same (cell-counted _ _ _ _ (loop .cell) (c .before .before .before .before .before .if1 .left)) (stored-next (loop .inv .2) (put .1)),
     )
-
-same-length : tie.Need-same-length Inv-loop μ-loop
-same-length c = search needs
 
 returns : tie.Need-returns Inv-loop μ-loop
 returns c =
     let loop = c .before .loop in
-    (omega (arith, loop .inv, c .before .before .before .before .before .before .pre), rw (le-antisymm (c .loop-test .left) (loop .inv .0)) (loop .inv .3))
+    (omega (arith, loop .inv, c .before .before .before .before .before .pre), rw (le-antisymm (c .loop-test .left) (loop .inv .0)) (loop .inv .2))
 
 pub put-cells-spec : {M : Type 1} → statement M
 put-cells-spec =
@@ -104,5 +98,4 @@ put-cells-spec =
     add-cell-2
     loop-less-2
     loop-again-2
-    same-length
     returns)

@@ -1,7 +1,8 @@
 -- `sheet_text::lines::put_sheet` meets its contract. Assumes nothing.
+use mathlib.Core.Path.{ap}
+use Rattle.sheet_text.specs.SheetText.{topLines, sheetLines}
+use Rattle.text.proofs.StoredLaws.{stored-same, stored-next}
 use borrow.Author.Needs.{needs}
-use Rattle.sheet_text.specs.SheetText.{sheetLines}
-use Rattle.text.proofs.StoredLaws.{stored-next}
 use Rattle.sheet_text.proofs.lines.put_sheet.Statement.{statement}
 use Rattle.sheet_text.proofs.lines.put_sheet.Tie as tie
 
@@ -14,17 +15,11 @@ put-top-requires c κs = search needs
 put-cells-requires : tie.Need-put-cells-requires
 put-cells-requires c κs = search needs
 
-same-length : tie.Need-same-length
-same-length c = search needs
-
 returns : tie.Need-returns
 unfolding sheetLines
 returns c =
-    let cells = c .before .before in
-    let top = cells .before .before .before .before in
-    let counted = top .before .before in
-    (cells .put-cells .ensures .0, stored-next (rw (counted .total .ensures) at (top .put-top .ensures .1)) (cells .put-cells .ensures .1))
+    let cells = c .put-cells .ensures in
+    (cells .0, stored-next (stored-same (ap (topLines _ _ _) (c .before .before .before .before .total .ensures)) (c .before .before .put-top .ensures .1)) (cells .1))
 
 pub put-sheet-spec : {M : Type 1} → statement M
-put-sheet-spec =
-    tie.close (tie.spec total-requires put-top-requires put-cells-requires same-length returns)
+put-sheet-spec = tie.close (tie.spec total-requires put-top-requires put-cells-requires returns)

@@ -13,15 +13,11 @@ slice-aggregate-put-word c = search needs
 put-word-requires : tie.Need-put-word-requires
 put-word-requires c κs = search needs
 
-same-length : tie.Need-same-length
-same-length c = search needs
-
 returns : tie.Need-returns
 unfolding tooLarge lineOf
 returns c =
-    let put = c .before .before .put-word .ensures in
+    let put = c .put-word .ensures in
     (omega (arith, put .0), stored (put .0) (put .1))
 
 pub put-too-large-spec : {M : Type 1} → statement M
-put-too-large-spec =
-    tie.close (tie.spec slice-aggregate-put-word put-word-requires same-length returns)
+put-too-large-spec = tie.close (tie.spec slice-aggregate-put-word put-word-requires returns)

@@ -36,19 +36,16 @@ put-word-requires-3 c κs = search needs
 put-number-requires-4 : tie.Need-put-number-requires-4
 put-number-requires-4 c κs = search needs
 
-same-length : tie.Need-same-length
-same-length c = search needs
-
 returns : tie.Need-returns
 unfolding gridWord gatesWord placedWord topLines
 returns c =
-    let a = c .before .before .before .before .before .before .before .before .before .before .before .before .before .before .before .before .before .before .before .before .before .before .before .before .before .before .before .before .put-word .ensures in
-    let b = c .before .before .before .before .before .before .before .before .before .before .before .before .before .before .before .before .before .before .before .before .before .before .before .before .put-number .ensures in
-    let c′ = c .before .before .before .before .before .before .before .before .before .before .before .before .before .before .before .before .before .before .before .before .put-number2 .ensures in
-    let d = c .before .before .before .before .before .before .before .before .before .before .before .before .before .before .before .put-word2 .ensures in
-    let e = c .before .before .before .before .before .before .before .before .before .before .before .put-number3 .ensures in
-    let f = c .before .before .before .before .before .before .put-word3 .ensures in
-    let g = c .before .before .put-number4 .ensures in (
+    let a = c .before .before .before .before .before .before .before .before .before .before .before .before .before .before .put-word .ensures in
+    let b = c .before .before .before .before .before .before .before .before .before .before .before .before .put-number .ensures in
+    let c′ = c .before .before .before .before .before .before .before .before .before .before .put-number2 .ensures in
+    let d = c .before .before .before .before .before .before .before .put-word2 .ensures in
+    let e = c .before .before .before .before .before .put-number3 .ensures in
+    let f = c .before .before .put-word3 .ensures in
+    let g = c .put-number4 .ensures in (
       omega (arith, a .0, b .1, c′ .1, d .0, e .1, f .0, g .1),
       stored-next (line-before gridWord _ _ (stored (a .0) (a .1)) (line-before _ _ _ (b .0) (line-last _ (c′ .0)))) (line-before gatesWord _ _ (stored (d .0) (d .1)) (line-before _ _ _ (e .0) (line-before placedWord _ _ (stored (f .0) (f .1)) (line-last _ (g .0))))),
     )
@@ -67,5 +64,4 @@ put-top-spec =
     slice-aggregate-put-word-3
     put-word-requires-3
     put-number-requires-4
-    same-length
     returns)

@@ -12,13 +12,10 @@ gates-of-requires c κs = search needs
 put-too-large-requires : tie.Need-put-too-large-requires
 put-too-large-requires c κs = search needs
 
-same-length : tie.Need-same-length
-same-length c = search needs
-
 returns : tie.Need-returns
 returns c =
-    let put = c .before .before .put-too-large .ensures in
-    (put .0, stored-same (gates-too-many _ (c .before .before .before .before .before .before .before .before .pre .1) (omega (arith, c .before .before .before .before .if1 .taken, c .before .before .before .before .before .gates-of .ensures))) (put .1))
+    let put = c .put-too-large .ensures in
+    (put .0, stored-same (gates-too-many _ (c .before .before .before .before .before .pre .1) (omega (arith, c .before .before .if1 .taken, c .before .before .before .gates-of .ensures))) (put .1))
 
 cells-of-requires : tie.Need-cells-of-requires
 cells-of-requires c κs = search needs
@@ -26,26 +23,18 @@ cells-of-requires c κs = search needs
 put-too-large-requires-2 : tie.Need-put-too-large-requires-2
 put-too-large-requires-2 c κs = search needs
 
-same-length-2 : tie.Need-same-length-2
-same-length-2 c = search needs
-
 returns-2 : tie.Need-returns-2
 returns-2 c =
-    let put = c .before .before .put-too-large2 .ensures in
-    let gates = c .before .before .before .before .before .before in
-    (put .0, stored-same (cells-too-many _ (c .before .before .before .before .before .before .before .before .before .before .pre .1) (omega (arith, gates .if1 .left, gates .before .gates-of .ensures)) (omega (arith, c .before .before .before .before .if2 .taken, c .before .before .before .before .before .cells-of .ensures))) (put .1))
+    let put = c .put-too-large2 .ensures in
+    (put .0, stored-same (cells-too-many _ (c .before .before .before .before .before .before .before .pre .1) (omega (arith, c .before .before .before .before .if1 .left, c .before .before .before .before .before .gates-of .ensures)) (omega (arith, c .before .before .if2 .taken, c .before .before .before .cells-of .ensures))) (put .1))
 
 good-sheet-requires : tie.Need-good-sheet-requires
 good-sheet-requires c κs = search needs
 
-same-length-3 : tie.Need-same-length-3
-same-length-3 c = search needs
-
 returns-3 : tie.Need-returns-3
 returns-3 c =
-    let put = c .before .before .good-sheet .ensures in
-    let gates = c .before .before .before .before .before .before in
-    (put .0, stored-same (within-sizes _ (c .before .before .before .before .before .before .before .before .before .before .pre .1) (omega (arith, gates .if1 .left, gates .before .gates-of .ensures)) (omega (arith, c .before .before .before .before .if2 .left, c .before .before .before .before .before .cells-of .ensures))) (put .1))
+    let put = c .good-sheet .ensures in
+    (put .0, stored-same (within-sizes _ (c .before .before .before .before .before .before .before .pre .1) (omega (arith, c .before .before .before .before .if1 .left, c .before .before .before .before .before .gates-of .ensures)) (omega (arith, c .before .before .if2 .left, c .before .before .before .cells-of .ensures))) (put .1))
 
 pub sized-sheet-spec : {M : Type 1} → statement M
 sized-sheet-spec =
@@ -53,12 +42,9 @@ sized-sheet-spec =
     (tie.spec
     gates-of-requires
     put-too-large-requires
-    same-length
     returns
     cells-of-requires
     put-too-large-requires-2
-    same-length-2
     returns-2
     good-sheet-requires
-    same-length-3
     returns-3)

@@ -13,7 +13,7 @@ use Rattle.sheet_text.proofs.record_sheet.cells_text.Tie as tie
 
 -- what the function was given, from the step that reads the record and from the one that remaps it
 abbrev given : tie.After-read-scan → tie.Start
-given c = c .before .before .before .before .before .before .before .before .before .before .before .before .before .before .before
+given c = c .before .before .before .before .before .before .before .before .before .before .before .before .before .before
 
 abbrev at-read : tie.After-remap → tie.After-read-scan
 at-read c = c .before .before .before .before .before .before .before .before .before .before .before .before .before .before .before .before
@@ -50,7 +50,7 @@ remap-requires : tie.Need-remap-requires
 remap-requires c κs = search needs
 
 window-of-requires : tie.Need-window-of-requires
-window-of-requires c κs = grid-good (c .before .before .before .before .before .before .before .before .before .before .before .before .before .before .before .before .before .before .before .before .before .before .before .before .before .before .before .before .before .before .before .before .before .before .before .before .before .before .before .before .before .before .before .pre .0)
+window-of-requires c κs = grid-good (c .before .before .before .before .before .before .before .before .before .before .before .before .before .before .before .before .before .before .before .before .before .before .before .before .before .before .before .before .before .before .before .before .before .before .before .before .before .before .before .before .before .before .pre .0)
 
 gates-of-requires : tie.Need-gates-of-requires
 gates-of-requires c κs = search needs
@@ -64,17 +64,16 @@ put-sheet-requires c κs =
       omega (arith, counts-length _ cells, ap cellsOf (start .pre .0 .is-head), start .pre .0 .cells-most),
       means-length _ cells ∙ sym (counts-length _ cells),
       cell-qualities-length _ cells ∙ sym (counts-length _ cells),
-      start .pre .2,
     )
 
 same-length : tie.Need-same-length
-same-length c = c .before .before .before .before .before .before .before .before .before .before .before .before .before .before .before .before .before .before .before .before .before .before .before .before .before .before .before .before .before .before .before .before .before .before .before .before .azimuths .given
+same-length c = c .before .before .before .before .before .before .before .before .before .before .before .before .before .before .before .before .before .before .before .before .before .before .before .before .before .before .before .before .before .before .before .before .before .before .azimuths .given
 
 same-length-2 : tie.Need-same-length-2
-same-length-2 c = c .before .before .before .before .before .before .before .before .before .before .before .before .before .before .before .before .before .before .before .before .before .before .before .before .before .before .before .before .before .before .before .before .before .before .values .given
+same-length-2 c = c .before .before .before .before .before .before .before .before .before .before .before .before .before .before .before .before .before .before .before .before .before .before .before .before .before .before .before .before .before .before .before .before .values .given
 
 same-length-3 : tie.Need-same-length-3
-same-length-3 c = c .before .before .before .before .before .before .before .before .before .before .before .before .before .before .before .before .before .before .before .before .before .before .before .before .before .before .before .before .before .before .before .before .qualities .given
+same-length-3 c = c .before .before .before .before .before .before .before .before .before .before .before .before .before .before .before .before .before .before .before .before .before .before .before .before .before .before .before .before .before .before .qualities .given
 
 same-length-4 : tie.Need-same-length-4
 same-length-4 c = search needs
@@ -94,16 +93,12 @@ same-length-8 c = search needs
 same-length-9 : tie.Need-same-length-9
 same-length-9 c = search needs
 
-same-length-10 : tie.Need-same-length-10
-same-length-10 c = search needs
-
 returns : tie.Need-returns
 returns c =
-    let put = c .before .before in
-    let remap = c .before .before .before .before .before .before .before .before .before .before .before .before .before .before .before .before .before .before .before .before .before in (
-      put .put-sheet .ensures .0,
-      stored-same (is-sheet (given-remap remap .pre .0) (cells-done remap))
-          (rw (c .before .before .before .before .before .before .before .before .window-of .ensures, c .before .before .before .before .before .before .before .gates-of .ensures) at (put .put-sheet .ensures .1)),
+    let put = c .put-sheet .ensures in
+    let remap = c .before .before .before .before .before .before .before .before .before .before .before .before .before .before .before .before .before .before .before in (
+      put .0,
+      stored-same (is-sheet (given-remap remap .pre .0) (cells-done remap)) (rw (c .before .before .before .before .before .before .window-of .ensures, c .before .before .before .before .before .gates-of .ensures) at (put .1)),
     )
 
 pub cells-text-spec : {M : Type 1} → statement M
@@ -124,5 +119,4 @@ cells-text-spec =
     same-length-7
     same-length-8
     same-length-9
-    same-length-10
     returns)

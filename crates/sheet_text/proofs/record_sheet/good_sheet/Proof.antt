@@ -19,7 +19,7 @@ cells-of-requires : tie.Need-cells-of-requires
 cells-of-requires c κs = search needs
 
 array-borrow-prefix-azimuths : tie.Need-array-borrow-prefix-azimuths
-array-borrow-prefix-azimuths c = omega (arith, rays-most (c .before .before .before .before .before .pre .0))
+array-borrow-prefix-azimuths c = omega (arith, rays-most (c .before .before .before .before .pre))
 
 slice-aggregate-cells-text : tie.Need-slice-aggregate-cells-text
 slice-aggregate-cells-text c = sym (length-take-le _ _ (array-borrow-prefix-azimuths (c .before)))
@@ -77,8 +77,8 @@ unfolding listsExact
 cells-text-requires c κs =
     let gates = c .before .before .before .before .before .before .before .before .before .before .before .gates-of .ensures in
     let cells = c .before .before .before .before .before .before .before .before .before .before .cells-of .ensures in
-    let start = c .before .before .before .before .before .before .before .before .before .before .before .before .before .before .before in (
-      start .pre .0,
+    let start = c .before .before .before .before .before .before .before .before .before .before .before .before .before .before in (
+      start .pre,
       lengths-exact _ _ (record {
         azimuths-length = sym (slice-aggregate-cells-text (c .before .before .before .before .before .before .before .before .before));
         values-length = sym (slice-aggregate-cells-text-2 (c .before .before .before .before .before .before .before .before)) ∙ gates;
@@ -90,11 +90,7 @@ cells-text-requires c κs =
         means-length = sym (slice-aggregate-cells-text-8 (c .before .before)) ∙ cells;
         cell-qualities-length = sym (slice-aggregate-cells-text-9 (c .before)) ∙ cells;
       }),
-      start .pre .1,
     )
-
-same-length : tie.Need-same-length
-same-length c = search needs
 
 returns : tie.Need-returns
 returns c = search needs
@@ -125,5 +121,4 @@ good-sheet-spec =
     array-borrow-prefix-cell-qualities
     slice-aggregate-cells-text-9
     cells-text-requires
-    same-length
     returns)
