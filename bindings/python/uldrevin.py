@@ -385,7 +385,14 @@ def record_head(data):
 
 
 def record_field(data, number):
-    """The content of a field, as a memoryview of the caller's own bytes; empty for a number other than 1 to 7."""
+    """The content of a field, as a memoryview of the caller's own bytes; empty for a number other than 1 to 7.
+
+    A refused record raises its refusal, where document 01 has an empty part, whatever the number:
+
+    >>> record_field(b"", 8)
+    Traceback (most recent call last):
+    uldrevin.Refusal: refusal 11: the record is cut short
+    """
     part = memoryview(data).cast("B")
     asked = index(number) if 0 <= index(number) < 2**32 else 0  # 0 too is a number other than 1 to 7
     start, length = c_uint64(), c_uint64()
