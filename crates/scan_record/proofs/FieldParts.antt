@@ -1,11 +1,12 @@
 -- A field's part: empty, or what stands between the field's header and its end; and where it starts. Assumes nothing.
 use mathlib.Core.Bool.{true, false}
-use mathlib.Core.List.{List, []}
-use mathlib.Core.Path.{_≡_, ap₂}
-use Prim.Native.Nat.{ℕ, _+_, _-_, _<_, _≤_}
+use mathlib.Core.List.{List, [], _∷_}
+use mathlib.Core.Path.{_≡_, ap, ap₂, sym, _∙_}
+use Prim.Native.Nat.{ℕ, suc, _+_, _-_, _<_, _≤_}
 use native.Mathlib.Omega.{arith}
 use borrow.Author.Tests.{le-leb, lt-leb, eq-eqb, ne-eqb}
-use lib.ListN.{length, take, drop}
+use lib.ListN.{length, take, drop, getD}
+use lib.Seq.{drop-cons}
 use Rattle.placement.specs.Refusal.{inRange}
 use Rattle.scan_record.specs.RecordPlaces.{contentLength, contentStart}
 use Rattle.scan_record.specs.RecordRefusal.{headRefusal}
@@ -59,3 +60,15 @@ unfolding part
 part-between bytes {start} {count} start′ count′ e f =
     let size : start + count - start ≡ count′ = omega (arith, f) in
     ap₂ (λ (n m : ℕ). take n (drop m bytes)) size e
+
+-- Bytes alone do not tell a part's place: the tag of field 1 may be the same byte as the content of field 4.
+pub tag-for-weighting : (bytes : List ℕ) → headRefusal bytes ≡ 0 → getD bytes (contentStart bytes 3) 0 ≡ getD bytes 0 0 → (1 ≤ length bytes) × (take 1 bytes ≡ fieldPart bytes 4)
+unfolding part contentLength
+tag-for-weighting bytes e same =
+    let inside : contentStart bytes 3 + 1 ≤ length bytes = part-inside bytes 4 (omega arith) (omega arith) e in
+    let tag : drop 0 bytes ≡ getD bytes 0 0 ∷ drop 1 bytes = drop-cons bytes 0 0 (omega arith) in
+    let content : drop (contentStart bytes 3) bytes ≡ getD bytes (contentStart bytes 3) 0 ∷ drop (suc (contentStart bytes 3)) bytes = drop-cons bytes (contentStart bytes 3) 0 (omega arith) in
+    let same-bytes : take 1 bytes ≡ part (contentStart bytes 3) 1 bytes =
+        ap (λ (l : List ℕ). take 1 l) tag ∙ ap (λ (x : ℕ). x ∷ []) (sym same) ∙ sym (ap (λ (l : List ℕ). take 1 l) content)
+    in
+    (omega arith, same-bytes ∙ part-given bytes 4 (part-there bytes 4 (omega arith) (omega arith) e))
