@@ -68,7 +68,5 @@ tag-for-weighting bytes e same =
     let inside : contentStart bytes 3 + 1 ≤ length bytes = part-inside bytes 4 (omega arith) (omega arith) e in
     let tag : drop 0 bytes ≡ getD bytes 0 0 ∷ drop 1 bytes = drop-cons bytes 0 0 (omega arith) in
     let content : drop (contentStart bytes 3) bytes ≡ getD bytes (contentStart bytes 3) 0 ∷ drop (suc (contentStart bytes 3)) bytes = drop-cons bytes (contentStart bytes 3) 0 (omega arith) in
-    let same-bytes : take 1 bytes ≡ part (contentStart bytes 3) 1 bytes =
-    ap (λ (l : List ℕ). take 1 l) tag ∙ ap (λ (x : ℕ). x ∷ []) (sym same) ∙ sym (ap (λ (l : List ℕ). take 1 l) content)
-    in
+    let same-bytes : take 1 bytes ≡ part (contentStart bytes 3) 1 bytes = ap (λ (l : List ℕ). take 1 l) tag ∙ ap (λ (x : ℕ). x ∷ []) (sym same) ∙ sym (ap (λ (l : List ℕ). take 1 l) content) in
     (omega arith, same-bytes ∙ part-given bytes 4 (part-there bytes 4 (omega arith) (omega arith) e))
