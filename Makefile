@@ -15,11 +15,15 @@ test:
 	python3 tests/run.py
 
 library: $(SHARED)
+	@:
 
-# The proved archive, and the same as a shared library.
+# The proved archive, and the same as a shared library. Each step is quiet, and prints all of its output where it fails.
+QUIETLY = > target/library.log 2>&1 || { cat target/library.log >&2; exit 1; }
+
 $(SHARED): $(shell find crates crates.txt -type f)
-	rt staticlib uldrevin
-	gcc -shared -o $@ -Wl,--whole-archive $(ARCHIVE) -Wl,--no-whole-archive
+	@mkdir -p target
+	@rt staticlib uldrevin $(QUIETLY)
+	@gcc -shared -o $@ -Wl,--whole-archive $(ARCHIVE) -Wl,--no-whole-archive $(QUIETLY)
 
 # N gates, as single gates, scans and records, through the library and the plain program; SEED=.. repeats a run.
 compare: library

@@ -2,11 +2,13 @@
  * Uldrevin: radar gates to cells of the American HRAP mesh or the German RADOLAN raster, in whole numbers.
  *
  * Link with target/staticlib/libuldrevin.a or target/libuldrevin.so, which `make library` builds for x86-64 Linux. Each function here is
- * proved to follow the rules ("document 01") for every argument; docs/STATEMENTS.md lists what is proved.
+ * proved to follow the rules ("document 01") for every number that its parameters, structs and lists can hold, where the pointers are as
+ * said under "Pointers"; docs/STATEMENTS.md lists what is proved. A wider number that is passed for a narrower one, such as one of 64 bits
+ * for the number of a field, is cut by C before the call, and the answer is that of what is left.
  *
  * Units. Angles are ten-thousandths of a degree, lengths are centimetres. Azimuths are clockwise from north, longitudes east positive.
  *
- * Answers. Every function but the sine and the cosine answers 0 when it is done, or a refusal number. No argument need be checked first:
+ * Answers. Every function but the sine and the cosine answers 0 when it is done, or a refusal number. No number need be checked first:
  * every number in a struct has an answer, and so have the azimuth and the range of a single gate. One that is out of bounds is refused by
  * its own rule, whatever its size and sign. After a refusal everything that was lent for output holds what it held before. The lowest
  * number that applies is given, but for records, which are checked from the front:
@@ -26,10 +28,11 @@
  *   15  the scan has over 32,767 gates, too many for a record
  *   16  the buffer is shorter than the record
  *
- * Pointers. A struct or a single number is lent as a pointer to it, a list as a pointer to its first number and its length in numbers. A
- * pointer is never null, not even with the length 0, and points to as many numbers as the length says. What is lent for output overlaps
- * nothing else that is lent to the same call. Nothing is kept after the call, and nothing is allocated; calls from several threads do not
- * disturb each other.
+ * Pointers. They are not checked. A struct or a single number is lent as a pointer to it, a list as a pointer to its first number and its
+ * length in numbers. Each pointer, those to cell, x, y, a head that is read, start and length too, is aligned for its type and never null,
+ * not even with the length 0, and points to one struct or number, or to as many numbers as the length says. What is lent for output
+ * overlaps nothing else that is lent to the same call. Nothing is kept after the call, and nothing is allocated; calls from several threads
+ * do not disturb each other, where none of them is lent for output what another is lent.
  */
 #ifndef ULDREVIN_H
 #define ULDREVIN_H
@@ -137,7 +140,7 @@ uint32_t uldrevin_record_read(const uint8_t *record, size_t record_length, struc
 
 /*
  * Finds the content of a field, number 1 to 7, in a record: it has *length bytes, the first of them record[*start]. For any other number
- * both are 0. Refusals: those of uldrevin_record_head.
+ * both are 0. Refusals: those of uldrevin_record_head, whatever the number; a refused record has no place to tell, and both stay.
  */
 uint32_t uldrevin_record_field(const uint8_t *record, size_t record_length, uint32_t number, uint64_t *start, uint64_t *length);
 

@@ -10,6 +10,7 @@ import subprocess
 import sys
 from array import array
 from pathlib import Path
+from threading import Thread
 
 if sys.argv[1:] == ["plain"]:
     sys.modules["numpy"] = None  # an import of it fails
@@ -201,6 +202,61 @@ def kinds_of_lists(checks):
     by_gate, by_cell = (12, 20), (5, 6)
     shapes = [(12,), by_gate, by_gate, by_gate, *[by_cell] * 5]
     checks.equal("the shapes", [numbers.shape for numbers in lists], shapes)
+
+
+# Other threads.
+
+
+class Meddled:
+    """Stands in for the library: during each call another thread tries to lengthen the given arrays. A call with a longer one is not made."""
+
+    def __init__(self, library, lists):
+        self.library, self.lists, self.told = library, lists, []
+
+    def lengthen(self):
+        for numbers in self.lists:
+            try:
+                numbers.append(0)
+                self.told.append("lengthened")
+            except BufferError:
+                self.told.append("held")
+
+    def __getattr__(self, name):
+        function = getattr(self.library, name)
+
+        def called(*arguments):
+            thread = Thread(target=self.lengthen)
+            thread.start()
+            thread.join()
+            return function(*arguments) if "lengthened" not in self.told else 6
+
+        return called
+
+
+def held_arrays(checks):
+    """The given arrays are held during each of the two calls that these functions make, and free once they have returned or raised."""
+    library = uldrevin._library
+    wrong = EXAMPLE._replace(spacing=0)
+    for function, scan, calls in (
+        (uldrevin.remap, EXAMPLE, 2),
+        (uldrevin.write_record, EXAMPLE, 2),
+        (uldrevin.remap, wrong, 1),
+        (uldrevin.write_record, wrong, 1),
+    ):
+        lists = [array(letter, numbers) for letter, numbers in zip("IHB", scan[5:])]
+        uldrevin._library = meddled = Meddled(library, lists)
+        what = f"{function.__name__} with spacing {scan.spacing}"
+        try:
+            ended = function(*scan[:5], *lists)
+        except uldrevin.Refusal as refusal:
+            ended = refusal  # kept, since its traceback keeps the function's variables
+        finally:
+            uldrevin._library = library
+        checks.equal(f"{what}, the arrays during its calls", meddled.told, ["held"] * 3 * calls)
+        checks.equal(f"{what}, its refusal", getattr(ended, "number", None), 3 if scan is wrong else None)
+        meddled.told.clear()
+        meddled.lengthen()
+        checks.equal(f"{what}, the arrays afterwards", meddled.told, ["lengthened"] * 3)
 
 
 # Refusals.
@@ -400,7 +456,7 @@ def libraries(checks):
 
 def main():
     checks = Checks()
-    for part in (gates, angles, scans, forms_of_lists, kinds_of_lists, scan_refusals, record_refusals, refusal_itself):
+    for part in (gates, angles, scans, forms_of_lists, kinds_of_lists, held_arrays, scan_refusals, record_refusals, refusal_itself):
         part(checks)
     for part in (records, fields, numbers_of_64_bits, numbers_not_held, lists_not_taken, libraries):
         part(checks)

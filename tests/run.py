@@ -1,13 +1,36 @@
-"""The test command: everything that is proved and everything that is run, closed by one line that counts them all."""
+"""The test command: everything that is proved and everything that is run, closed by one line that counts them all.
+
+    python3 tests/run.py [MODULE]
+
+With a module, as compare_scan, it runs the comparisons of that one alone.
+"""
+import importlib
 import re
 import subprocess
 import sys
 import time
+from concurrent.futures import ThreadPoolExecutor
 from pathlib import Path
 
 ROOT = Path(__file__).resolve().parent.parent
 sys.path.insert(0, str(ROOT / "tests"))
 SHOWN = 10  # differences printed of one comparison
+CORES = 2
+CLOSING = re.compile(r"(\d+) passed, (\d+) failed")
+
+# Started and shown in this order: the longest first, so that none of them is left for the end.
+COMPARISONS = (
+    "compare_at_scale",
+    "compare_sine",
+    "compare_record",
+    "compare_placement",
+    "compare_scan",
+    "compare_programs",
+    "compare_bindings",
+    "compare_python",
+    "compare_tables",
+)
+WITHOUT_THE_LIBRARY = ("compare_programs",)
 
 # What the prover says where an edit no longer fits the proof file, and so shows nothing of the contract.
 UNFIT = re.compile(r"has no `Need-|has no `Tie`|no declaration named|\bParse\b|\bScope\b|is not in scope")
@@ -35,20 +58,24 @@ def run(words):
     lines = []
     for line in process.stdout:
         lines.append(line.rstrip("\n"))
-        if not re.fullmatch(r"\d+ passed, \d+ failed", lines[-1]):  # one such line stands at the very end
+        if not CLOSING.fullmatch(lines[-1]):  # one such line stands at the very end
             print(line, end="", flush=True)
     return process.wait(), lines
 
 
-def proofs(count):
-    """`rt ci` proves every listed crate from nothing, tries the must-fail edits and runs the programs."""
-    status, lines = run(["rt", "ci"])
-    counted = re.fullmatch(r"(\d+) passed, (\d+) failed", lines[-1] if lines else "")
+def add(count, title, status, lines):
+    """Adds what a command counted in its last line. One without such a line, or that failed and counted no failure, has failed."""
+    counted = CLOSING.fullmatch(lines[-1] if lines else "")
     if counted:
         count.passed += int(counted.group(1))
         count.failed += int(counted.group(2))
     if not counted or (status != 0 and counted.group(2) == "0"):
-        count.note("rt ci", [f"it ended with status {status}"])
+        count.note(title, [f"it ended with status {status}"])
+
+
+def proofs(count):
+    """`rt ci` proves every listed crate from nothing, tries the must-fail edits and runs the programs."""
+    add(count, "rt ci", *run(["rt", "ci"]))
 
 
 def must_fail_logs(count):
@@ -64,11 +91,35 @@ def must_fail_logs(count):
         count.note(f"the refusal of {crate}/{edit.stem} names a fact", differences)
 
 
-def compared(count, module):
-    start = time.monotonic()
-    for title, differences in module.comparisons():
+def compared(module):
+    """The comparisons of one module, in this process."""
+    count, start = Count(), time.monotonic()
+    for title, differences in importlib.import_module(module).comparisons():
         count.note(title, differences, time.monotonic() - start)
         start = time.monotonic()
+    return closed(count)
+
+
+def in_own_process(module):
+    return subprocess.run(
+        [sys.executable, __file__, module], cwd=ROOT, stdout=subprocess.PIPE, stderr=subprocess.STDOUT, text=True, errors="replace"
+    )
+
+
+def comparisons(count, modules):
+    """A process for each module, as many at once as there are cores. What one prints is shown when it and those before it are done."""
+    with ThreadPoolExecutor(CORES) as cores:
+        for module, done in zip(modules, cores.map(in_own_process, modules)):
+            lines = done.stdout.splitlines()
+            for line in lines:
+                if not CLOSING.fullmatch(line):
+                    print(line, flush=True)
+            add(count, module, done.returncode, lines)
+
+
+def closed(count):
+    print(f"{count.passed} passed, {count.failed} failed")
+    return 0 if count.failed == 0 and count.passed > 0 else 1
 
 
 def main():
@@ -79,26 +130,9 @@ def main():
     must_fail_logs(count)
     status, lines = run(["make", "--no-print-directory", "library"])
     count.note("the library is built from the proved archive", [] if status == 0 else lines[-SHOWN:])
-    if status == 0:
-        import compare_at_scale
-        import compare_bindings
-        import compare_placement
-        import compare_python
-        import compare_record
-        import compare_scan
-        import compare_sine
-        import compare_tables
-
-        by_the_second_program = (compare_tables, compare_sine, compare_placement, compare_scan, compare_record)
-        from_other_languages = (compare_bindings, compare_python, compare_at_scale)
-        for module in (*by_the_second_program, *from_other_languages):
-            compared(count, module)
-    import compare_programs
-
-    compared(count, compare_programs)
-    print(f"{count.passed} passed, {count.failed} failed")
-    return 0 if count.failed == 0 and count.passed > 0 else 1
+    comparisons(count, COMPARISONS if status == 0 else WITHOUT_THE_LIBRARY)
+    return closed(count)
 
 
 if __name__ == "__main__":
-    sys.exit(main())
+    sys.exit(compared(sys.argv[1]) if len(sys.argv) > 1 else main())

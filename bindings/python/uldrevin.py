@@ -21,12 +21,15 @@ Lists that are given may be
 - plain lists or array.array of whole numbers; values and qualities either flat, ray by ray, with as many rays as azimuths, or a list
   of rays.
 
+While the library reads a given array.array, no thread can resize it: Python raises BufferError there.
+
 A refusal of document 01 raises Refusal. Anything that the library could not be asked, such as a number beyond 64 bits, or one in a
 list that the list's type does not hold, raises ValueError or TypeError. The shared library is the file that the environment variable
 ULDREVIN_LIBRARY names, or else target/libuldrevin.so of the repository.
 """
 import os
 from array import array
+from contextlib import ExitStack
 from ctypes import CDLL, POINTER, Structure, c_int64, c_size_t, c_uint32, c_uint64, c_void_p
 from math import prod
 from operator import index
@@ -258,13 +261,26 @@ def _new(letter, shape):
     return array(letter, bytes(prod(shape) * array(letter).itemsize))
 
 
-def _lent(lists):
-    """The pointer and the length of each list. The lists have to be kept until the call is done."""
-    return [part for one in lists for part in _pointer_and_length(one)]
+def _asked(function, *arguments):
+    """The library's answer. A list goes as its pointer and its length.
+
+    No other thread can resize a list during the call: Python refuses it for an array.array that has a memoryview, and numpy for an
+    array that anything else refers to.
+    """
+    with ExitStack() as held:
+        for one in arguments:
+            if isinstance(one, array):
+                held.enter_context(memoryview(one))
+        return function(*(part for one in arguments for part in _lent(one)))
 
 
-def _pointer_and_length(one):
-    address, length = one.buffer_info() if isinstance(one, array) else (one.ctypes.data, one.size)
+def _lent(one):
+    if isinstance(one, array):
+        address, length = one.buffer_info()
+    elif numpy is not None and isinstance(one, numpy.ndarray):
+        address, length = one.ctypes.data, one.size
+    else:
+        return (one,)
     return (address, length) if length else (_ANYWHERE.buffer_info()[0], 0)
 
 
@@ -364,14 +380,13 @@ def place(site, grid, azimuth, range):
 def remap(site, grid, weighting, first, spacing, azimuths, values, qualities):
     """The ledger, the sums and the published cells of a scan; the module's text has an example. A weighting other than 0 is by quality."""
     head, lists = _given(Scan(site, grid, weighting, first, spacing, azimuths, values, qualities))
-    arguments = [head, *_lent(lists)]
     # Asked with empty lists, the library refuses a wrong head by its number, before lists of its size are made.
-    number = _library.uldrevin_remap(*arguments, *_lent([array(letter) for letter in "IIIQHB"]))
+    number = _asked(_library.uldrevin_remap, head, *lists, *(array(letter) for letter in "IIIQHB"))
     if number != LENGTH_NOT_EXACT:
         raise Refusal(number)
     cells = (head.grid.rows, head.grid.columns)
     remapped = Remapped(_new("I", (head.rays, head.gates)), *(_new(letter, cells) for letter in "IIQHB"))
-    _accept(_library.uldrevin_remap(*arguments, *_lent(remapped)))
+    _accept(_asked(_library.uldrevin_remap, head, *lists, *remapped))
     return remapped
 
 
@@ -385,7 +400,14 @@ def record_head(data):
 
 
 def record_field(data, number):
-    """The content of a field, as a memoryview of the caller's own bytes; empty for a number other than 1 to 7."""
+    """The content of a field, as a memoryview of the caller's own bytes; empty for a number other than 1 to 7.
+
+    A refused record raises its refusal, where document 01 has an empty part, whatever the number:
+
+    >>> record_field(b"", 8)
+    Traceback (most recent call last):
+    uldrevin.Refusal: refusal 11: the record is cut short
+    """
     part = memoryview(data).cast("B")
     asked = index(number) if 0 <= index(number) < 2**32 else 0  # 0 too is a number other than 1 to 7
     start, length = c_uint64(), c_uint64()
@@ -407,7 +429,7 @@ def read_record(data):
     head = record_head(data)
     gates = (head.rays, head.gates)
     lists = [_new("I", (head.rays,)), _new("H", gates), _new("B", gates)]
-    _accept(_library.uldrevin_record_read(data, len(data), _Scan(), *_lent(lists)))
+    _accept(_asked(_library.uldrevin_record_read, data, len(data), _Scan(), *lists))
     return Scan(head.site, head.grid, head.weighting, head.first, head.spacing, *lists)
 
 
@@ -418,13 +440,12 @@ def write_record(site, grid, weighting, first, spacing, azimuths, values, qualit
     61
     """
     head, lists = _given(Scan(site, grid, weighting, first, spacing, azimuths, values, qualities))
-    arguments = [head, *_lent(lists)]
     length = c_uint64()
     # With no room, to be told of all else first.
-    number = _library.uldrevin_record_write(*arguments, *_lent([array("B")]), length)
+    number = _asked(_library.uldrevin_record_write, head, *lists, array("B"), length)
     if number != BUFFER_TOO_SHORT:
         raise Refusal(number)
     # Seven headers, then the contents, with the longer kind of grid.
     buffer = array("B", bytes(7 * 3 + 8 + 12 + 17 + 1 + 4 * head.rays + 3 * head.rays * head.gates))
-    _accept(_library.uldrevin_record_write(*arguments, *_lent([buffer]), length))
+    _accept(_asked(_library.uldrevin_record_write, head, *lists, buffer, length))
     return buffer[: length.value].tobytes()

@@ -32,7 +32,8 @@ pub fn record_head(record: &[u8]) -> Result<ScanHead, Refusal> {
     Ok(head_of(numbers))
 }
 
-/// The content of a field, 1 to 7, as a part of the record itself. Of any other number the part is empty.
+/// The content of a field, 1 to 7, as a part of the record itself. Of any other number the part is empty. A refused record gives its
+/// refusal, where document 01 has an empty part, whatever the number.
 ///
 /// ```
 /// # use uldrevin::{record_field, write_record, GateLists, Grid, HrapGrid, ScanHead, Site, Weighting};
@@ -49,6 +50,7 @@ pub fn record_head(record: &[u8]) -> Result<ScanHead, Refusal> {
 /// let record = write_record(head, scan)?;
 /// assert_eq!(record_field(&record, 6)?, [0, 1, 0, 7]); // two values of two bytes
 /// assert_eq!(record_field(&record, 8)?, []);
+/// assert_eq!(record_field(&record[1..], 8).unwrap_err().number, 12);
 /// # Ok::<(), uldrevin::Refusal>(())
 /// ```
 pub fn record_field(record: &[u8], number: u32) -> Result<&[u8], Refusal> {

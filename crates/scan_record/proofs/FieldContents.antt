@@ -10,13 +10,13 @@ use Rattle.scan_record.specs.RecordPlaces.{contentLength, contentStart, 
 use Rattle.scan_record.specs.RecordRefusal.{headRefusal}
 use Rattle.scan_record.specs.RecordAnswer.{part, fieldPart}
 use Rattle.scan_record.proofs.AcceptedRecord.{accepted-record}
-use Rattle.scan_record.proofs.FieldParts.{part-given}
+use Rattle.scan_record.proofs.FieldParts.{part-there, part-given}
 use Rattle.scan_record.proofs.ReadThenWrite.{content-length, content-stands}
 
 -- fields 1 to 7 of a record that is not refused
 accepted-part : (bytes : List ℕ) (k : ℕ) → k < 7 → headRefusal bytes ≡ 0 → fieldPart bytes (k + 1) ≡ part (contentStart bytes k) (contentLength bytes k) bytes
 accepted-part bytes k h e =
-    sym (part-given bytes (k + 1) (omega arith) (omega arith) e) ∙ ap (λ (j : ℕ). part (contentStart bytes j) (contentLength bytes j) bytes) (omega arith)
+    sym (part-given bytes (k + 1) (part-there bytes (k + 1) (omega arith) (omega arith) e)) ∙ ap (λ (j : ℕ). part (contentStart bytes j) (contentLength bytes j) bytes) (omega arith)
 
 pub field-contents : (bytes : List ℕ) → ((k : ℕ) → getD bytes k 0 < 256) → headRefusal bytes ≡ 0 → (k : ℕ) → k < 7 → fieldPart bytes (k + 1) ≡ getD (contentsOf (scanIn bytes)) k []
 unfolding part headRefusal

@@ -1,37 +1,53 @@
 -- A field's part: empty, or what stands between the field's header and its end; and where it starts. Assumes nothing.
-use mathlib.Core.Bool.{true, false, _&&_}
-use mathlib.Core.List.{List, []}
-use mathlib.Core.Path.{_≡_, ap₂}
-use Prim.Native.Nat.{ℕ, _+_, _-_, _<_, _≤_}
+use mathlib.Core.Bool.{true, false}
+use mathlib.Core.List.{List, [], _∷_}
+use mathlib.Core.Path.{_≡_, ap, ap₂, sym, _∙_}
+use Prim.Native.Nat.{ℕ, suc, _+_, _-_, _<_, _≤_}
 use native.Mathlib.Omega.{arith}
 use borrow.Author.Tests.{le-leb, lt-leb, eq-eqb, ne-eqb}
-use lib.Dec.{eqb}
-use lib.ListN.{length, take, drop}
+use lib.ListN.{length, take, drop, getD}
+use lib.Seq.{drop-cons}
 use Rattle.placement.specs.Refusal.{inRange}
 use Rattle.scan_record.specs.RecordPlaces.{contentLength, contentStart}
 use Rattle.scan_record.specs.RecordRefusal.{headRefusal}
-use Rattle.scan_record.specs.RecordAnswer.{part, fieldPart, fieldPlace}
+use Rattle.scan_record.specs.RecordAnswer.{part, hasPart, fieldPart, fieldPlace}
 use Rattle.scan_record.proofs.AcceptedRecord.{accepted-record}
 
-no-part : (bytes : List ℕ) (number : ℕ) → (inRange 1 7 number && eqb (headRefusal bytes) 0) ≡ false → [] ≡ fieldPart bytes number
+-- ---- whether there is a part
+
+pub none-below : (bytes : List ℕ) (number : ℕ) → number < 1 → hasPart bytes number ≡ false
+unfolding inRange
+none-below bytes number h = simp (lt-leb 1 number h)
+
+pub none-beyond : (bytes : List ℕ) (number : ℕ) → 1 ≤ number → 7 < number → hasPart bytes number ≡ false
+unfolding inRange
+none-beyond bytes number h i = simp (le-leb 1 number h, lt-leb number 7 i)
+
+pub none-refused : (bytes : List ℕ) (number : ℕ) → 1 ≤ number → number ≤ 7 → (headRefusal bytes ≡ 0 → ⊥) → hasPart bytes number ≡ false
+unfolding inRange
+none-refused bytes number h i wrong = simp (le-leb 1 number h, le-leb number 7 i, ne-eqb (headRefusal bytes) 0 wrong)
+
+pub part-there : (bytes : List ℕ) (number : ℕ) → 1 ≤ number → number ≤ 7 → headRefusal bytes ≡ 0 → hasPart bytes number ≡ true
+unfolding inRange
+part-there bytes number h i e = simp (le-leb 1 number h, le-leb number 7 i, eq-eqb (headRefusal bytes) 0 e)
+
+-- ---- its bytes and its place
+
+pub no-part : (bytes : List ℕ) (number : ℕ) → hasPart bytes number ≡ false → [] ≡ fieldPart bytes number
 unfolding fieldPart
 no-part bytes number e = rw e
 
-pub part-below : (bytes : List ℕ) (number : ℕ) → number < 1 → [] ≡ fieldPart bytes number
-unfolding inRange
-part-below bytes number h = no-part bytes number (simp (lt-leb 1 number h))
+pub no-place : (bytes : List ℕ) (number : ℕ) → hasPart bytes number ≡ false → 0 ≡ fieldPlace bytes number
+unfolding fieldPlace
+no-place bytes number e = rw e
 
-pub part-beyond : (bytes : List ℕ) (number : ℕ) → 1 ≤ number → 7 < number → [] ≡ fieldPart bytes number
-unfolding inRange
-part-beyond bytes number h i = no-part bytes number (simp (le-leb 1 number h, lt-leb number 7 i))
+pub part-given : (bytes : List ℕ) (number : ℕ) → hasPart bytes number ≡ true → part (contentStart bytes (number - 1)) (contentLength bytes (number - 1)) bytes ≡ fieldPart bytes number
+unfolding fieldPart
+part-given bytes number e = rw e
 
-pub part-refused : (bytes : List ℕ) (number : ℕ) → 1 ≤ number → number ≤ 7 → (headRefusal bytes ≡ 0 → ⊥) → [] ≡ fieldPart bytes number
-unfolding inRange
-part-refused bytes number h i wrong = no-part bytes number (simp (le-leb 1 number h, le-leb number 7 i, ne-eqb (headRefusal bytes) 0 wrong))
-
-pub part-given : (bytes : List ℕ) (number : ℕ) → 1 ≤ number → number ≤ 7 → headRefusal bytes ≡ 0 → part (contentStart bytes (number - 1)) (contentLength bytes (number - 1)) bytes ≡ fieldPart bytes number
-unfolding fieldPart inRange
-part-given bytes number h i e = simp (le-leb 1 number h, le-leb number 7 i, eq-eqb (headRefusal bytes) 0 e)
+pub place-given : (bytes : List ℕ) (number : ℕ) → hasPart bytes number ≡ true → contentStart bytes (number - 1) ≡ fieldPlace bytes number
+unfolding fieldPlace
+place-given bytes number e = rw e
 
 -- it ends in the record
 pub part-inside : (bytes : List ℕ) (number : ℕ) → 1 ≤ number → number ≤ 7 → headRefusal bytes ≡ 0 → contentStart bytes (number - 1) + contentLength bytes (number - 1) ≤ length bytes
@@ -45,16 +61,12 @@ part-between bytes {start} {count} start′ count′ e f =
     let size : start + count - start ≡ count′ = omega (arith, f) in
     ap₂ (λ (n m : ℕ). take n (drop m bytes)) size e
 
--- ---- where it starts
-
-pub place-below : (bytes : List ℕ) (number : ℕ) → number < 1 → 0 ≡ fieldPlace bytes number
-unfolding fieldPlace inRange
-place-below bytes number h = simp (lt-leb 1 number h)
-
-pub place-beyond : (bytes : List ℕ) (number : ℕ) → 1 ≤ number → 7 < number → 0 ≡ fieldPlace bytes number
-unfolding fieldPlace inRange
-place-beyond bytes number h i = simp (le-leb 1 number h, lt-leb number 7 i)
-
-pub place-given : (bytes : List ℕ) (number : ℕ) → 1 ≤ number → number ≤ 7 → contentStart bytes (number - 1) ≡ fieldPlace bytes number
-unfolding fieldPlace inRange
-place-given bytes number h i = simp (le-leb 1 number h, le-leb number 7 i)
+-- Bytes alone do not tell a part's place: the tag of field 1 may be the same byte as the content of field 4.
+pub tag-for-weighting : (bytes : List ℕ) → headRefusal bytes ≡ 0 → getD bytes (contentStart bytes 3) 0 ≡ getD bytes 0 0 → (1 ≤ length bytes) × (take 1 bytes ≡ fieldPart bytes 4)
+unfolding part contentLength
+tag-for-weighting bytes e same =
+    let inside : contentStart bytes 3 + 1 ≤ length bytes = part-inside bytes 4 (omega arith) (omega arith) e in
+    let tag : drop 0 bytes ≡ getD bytes 0 0 ∷ drop 1 bytes = drop-cons bytes 0 0 (omega arith) in
+    let content : drop (contentStart bytes 3) bytes ≡ getD bytes (contentStart bytes 3) 0 ∷ drop (suc (contentStart bytes 3)) bytes = drop-cons bytes (contentStart bytes 3) 0 (omega arith) in
+    let same-bytes : take 1 bytes ≡ part (contentStart bytes 3) 1 bytes = ap (λ (l : List ℕ). take 1 l) tag ∙ ap (λ (x : ℕ). x ∷ []) (sym same) ∙ sym (ap (λ (l : List ℕ). take 1 l) content) in
+    (omega arith, same-bytes ∙ part-given bytes 4 (part-there bytes 4 (omega arith) (omega arith) e))

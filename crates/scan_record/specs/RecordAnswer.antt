@@ -1,5 +1,5 @@
 -- What the reader and the writer answer and leave in the lent lists, and the part that is a field's content. Assumes nothing.
-use mathlib.Core.Bool.{_&&_, cond}
+use mathlib.Core.Bool.{Bool, _&&_, cond}
 use mathlib.Core.List.{List, [], _++_}
 use mathlib.Core.Path.{_≡_}
 use Prim.Native.Nat.{ℕ, _-_}
@@ -41,15 +41,15 @@ pub record Reads (bytes : List ℕ) (lists : Both RecordLists RecordLists) (answ
 unfoldable pub part : ℕ → ℕ → List ℕ → List ℕ
 part start count bytes = take count (drop start bytes)
 
-unfoldable pub fieldPart : List ℕ → ℕ → List ℕ
-fieldPart bytes number =
-    cond (inRange 1 7 number && eqb (headRefusal bytes) 0)
-    (part (contentStart bytes (number - 1)) (contentLength bytes (number - 1)) bytes)
-    []
+abbrev pub hasPart : List ℕ → ℕ → Bool
+hasPart bytes number = inRange 1 7 number && eqb (headRefusal bytes) 0
 
--- where a field's content starts, 0 for a field number other than 1 to 7
+unfoldable pub fieldPart : List ℕ → ℕ → List ℕ
+fieldPart bytes number = cond (hasPart bytes number) (part (contentStart bytes (number - 1)) (contentLength bytes (number - 1)) bytes) []
+
+-- how many bytes into the record the part starts, 0 for an empty part
 unfoldable pub fieldPlace : List ℕ → ℕ → ℕ
-fieldPlace bytes number = cond (inRange 1 7 number) (contentStart bytes (number - 1)) 0
+fieldPlace bytes number = cond (hasPart bytes number) (contentStart bytes (number - 1)) 0
 
 -- ---- the writer: it answers the record's length and touches nothing past its end
 

@@ -3,11 +3,14 @@ use crate::layout::content_length;
 use crate::layout::content_start;
 use crate::refusal::record_refusal;
 ghost use mathlib.Core.Path.{_≡_};
-ghost use Rattle.scan_record.specs.RecordAnswer.{fieldPlace, fieldPart};
+ghost use Prim.Native.Nat.{_+_};
+ghost use Rattle.scan_record.specs.RecordAnswer.{fieldPart, fieldPlace};
+ghost use Rattle.scan_record.specs.RecordRefusal.{headRefusal};
 
 // Any bytes and any number: a refused record or a number other than 1 to 7 gives an empty part.
 pub fn field(bytes: &[u8], number: usize) -> &[u8]
     ensures { λ r. ⌜ now r ≡ fieldPart (now (bytes .entry)) number ⌝ }
+    ensures place { λ r. ⌜ (r .ptr .0 ≡ bytes .entry .ptr .0) × (r .ptr .1 ≡ bytes .entry .ptr .1 + fieldPlace (now (bytes .entry)) number) ⌝ }
 {
     if number < 1 {
         return &bytes[0..0];
@@ -23,9 +26,9 @@ pub fn field(bytes: &[u8], number: usize) -> &[u8]
     &bytes[start..end]
 }
 
-// Where that part starts in a record that is not refused; 0 for a number other than 1 to 7.
+// Where that part starts, for callers who know that the record is not refused.
 pub fn field_place(bytes: &[u8], number: usize) -> usize
-    ensures { λ r. ⌜ r ≡ fieldPlace (now (bytes .entry)) number ⌝ }
+    ensures { λ r. ⌜ (headRefusal (now (bytes .entry)) ≡ 0 → r ≡ fieldPlace (now (bytes .entry)) number) ⌝ }
 {
     if number < 1 {
         return 0;

@@ -35,7 +35,7 @@ field-requires c κs = search needs
 returns-2 : tie.Need-returns-2
 returns-2 c = let zero = accepted (c .before .before) in record {
   the-number = sym zero;
-  the-lent = filled _ zero (λ i. record { start = c .before .field-place .ensures i; size = ap length (c .field .ensures) i });
+  the-lent = filled _ zero (λ i. record { start = c .before .field-place .ensures zero i; size = ap length (c .field .ensures .0) i });
 }
 
 pub uldrevin-record-field-spec : {M : Type 1} → statement M
