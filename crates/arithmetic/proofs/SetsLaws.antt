@@ -24,3 +24,7 @@ sets-start l xs h = sets-eq xs l 0 (omega arith) ∙ ap (λ (k : ℕ). xs ++ dro
 -- a list stored over the whole of another
 pub sets-whole : (l xs : List ℕ) → length xs ≡ length l → sets l 0 xs ≡ xs
 sets-whole l xs e = sets-start l xs (omega arith) ∙ rw (drop-of-length-le l {i = length xs} (omega arith), append-nil)
+
+-- a second piece right behind the first
+pub sets-then : (a : List ℕ) (i : ℕ) (xs ys : List ℕ) {b c : List ℕ} {j : ℕ} → b ≡ sets a i xs → j ≡ i + length xs → c ≡ sets b j ys → c ≡ sets a i (xs ++ ys)
+sets-then a i xs ys {b} {c} {j} e p f = f ∙ ap (λ (k : ℕ). sets b k ys) p ∙ ap (λ (l : List ℕ). sets l (i + length xs) ys) e ∙ sets-append a i xs ys

@@ -6,12 +6,12 @@ use Prim.Native.Nat.{ℕ, _-_}
 use borrow.Author.Tests.{eq-eqb, ne-eqb}
 use lib.ListN.{length}
 use Rattle.placement.specs.declared.gate.Placement.{Placement}
-use Rattle.placement.specs.declared.grid.Grid.{Grid}
-use Rattle.placement.specs.declared.position.Site.{Site}
+use Rattle.grid.specs.declared.kinds.Grid.{Grid}
+use Rattle.grid.specs.declared.site.Site.{Site}
 use Rattle.placement.specs.Gate.{placementOf}
-use Rattle.placement.specs.Window.{windowOf}
+use Rattle.grid.specs.Window.{windowOf}
 use Rattle.text.specs.DecimalText.{lineOf}
-use Rattle.placement.specs.Unsigned.{unsigned32}
+use Rattle.refusal.specs.Unsigned.{unsigned32}
 use Rattle.gate_text.specs.GivenWords.{sameWord, wordStart, word, areWords, numberAt, areNumbers}
 use Rattle.gate_text.specs.GateText.{hrapWord, radolanWord, usageLine, answerWords, given, siteGiven, hrapGiven, radolanGiven, answerText, gateText}
 

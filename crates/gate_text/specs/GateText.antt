@@ -5,16 +5,16 @@ use mathlib.Core.List.{List, [], _∷_}
 use Prim.Native.Nat.{ℕ, _-_, _/_, _%_}
 use Rattle.placement.specs.declared.gate.Placement.{Placement}
 use Rattle.placement.specs.declared.gate.Placement.the-variants.{Inside, Outside, Refused}
-use Rattle.placement.specs.declared.grid.Grid.{Grid}
-use Rattle.placement.specs.declared.grid.Grid.the-variants.{Radolan, Hrap}
-use Rattle.placement.specs.declared.position.Site.{Site}
+use Rattle.grid.specs.declared.kinds.Grid.{Grid}
+use Rattle.grid.specs.declared.kinds.Grid.the-variants.{Radolan, Hrap}
+use Rattle.grid.specs.declared.site.Site.{Site}
 use Rattle.placement.specs.Gate.{placementOf}
-use Rattle.placement.specs.Window.{windowOf}
+use Rattle.grid.specs.Window.{windowOf}
 use Rattle.text.specs.DecimalText.{decimalOf, signedDecimalOf, lineOf}
 use Rattle.text.specs.RefusedLine.{refusedWord}
-use Rattle.placement.specs.Unsigned.{unsigned32}
+use Rattle.refusal.specs.Unsigned.{unsigned32}
 use Rattle.gate_text.specs.GivenWords.{sameWord, word, areWords, numberAt, areNumbers}
-use Rattle.gate_text.specs.LedgerLine.{outsideWord}
+use Rattle.ledger_text.specs.LedgerLine.{outsideWord}
 
 -- the words `inside`, `hrap` and `radolan`
 unfoldable pub insideWord : List ℕ

@@ -6,9 +6,9 @@ use lib.Dec.{eqb}
 use lib.IntN.{ℤ, pos}
 use lib.ListN.{length, take, drop}
 use Rattle.arithmetic.specs.Places.{table, allOf}
-use Rattle.text.specs.declared.word.Parsed.{Parsed}
-use Rattle.text.specs.declared.word.Parsed.the-variants.{Number, Wrong}
-use Rattle.text.specs.WordValue.{parsed}
+use Rattle.word_value.specs.declared.Parsed.{Parsed}
+use Rattle.word_value.specs.declared.Parsed.the-variants.{Number, Wrong}
+use Rattle.word_value.specs.WordValue.{parsed}
 
 -- up to the first byte 0, or to the end
 unfoldable pub wordLength : List ℕ → ℕ

@@ -1,11 +1,11 @@
 // One gate given in words, and the line that answers it.
-use crate::columns::columns_of;
 use crate::given::hrap_given;
 use crate::given::is_given;
 use crate::given::radolan_given;
 use crate::given::site_given;
 use crate::given::unsigned_at;
-use placement::Grid;
+use grid::Grid;
+use ledger_text::columns_of;
 use placement::Placement;
 use text::put_integer;
 use text::put_number;
@@ -20,7 +20,7 @@ ghost use Rattle.placement.specs.declared.gate.Placement.the-variants.{Inside, 
 ghost use Rattle.text.specs.DecimalText.{lineOf};
 ghost use Rattle.text.specs.StoredText.{Stored};
 ghost use Rattle.gate_text.specs.GateText.{usageLine, answerWords, answerText, gateText};
-ghost use Rattle.gate_text.specs.PlacedColumns.{columnsThere};
+ghost use Rattle.ledger_text.specs.PlacedColumns.{columnsThere};
 
 // Any words, each ended by a byte 0; words that give no gate are answered by the usage line.
 pub fn gate_text(words: &[u8], line: &mut [u8; 256]) -> usize

@@ -2,14 +2,14 @@
 use crate::words::same_word;
 use crate::words::word;
 use crate::words::word_start;
-use placement::Grid;
-use placement::HrapGrid;
-use placement::RadolanGrid;
-use placement::Site;
-use text::Parsed;
+use grid::Grid;
+use grid::HrapGrid;
+use grid::RadolanGrid;
+use grid::Site;
+use word_value::Parsed;
 ghost use mathlib.Core.Path.{_≡_};
 ghost use Prim.Native.Nat.{_≤_, _+_};
-ghost use Rattle.placement.specs.Unsigned.{unsigned32};
+ghost use Rattle.refusal.specs.Unsigned.{unsigned32};
 ghost use Rattle.gate_text.specs.GivenWords.{isNumberAt, numberAt, areNumbers};
 ghost use Rattle.gate_text.specs.GateText.{given, siteGiven, hrapGiven, radolanGiven};
 
@@ -17,7 +17,7 @@ fn is_number(words: &[u8], n: usize) -> bool
     requires { ⌜ n ≤ 10 ⌝ }
     ensures { λ r. ⌜ r ≡ isNumberAt (now (words .entry)) n ⌝ }
 {
-    let answer = text::parse(word(words, n));
+    let answer = word_value::parse(word(words, n));
     match answer {
         Parsed::Number(_) => true,
         Parsed::Wrong => false,
@@ -29,7 +29,7 @@ fn number_at(words: &[u8], n: usize) -> i64
     requires { ⌜ n ≤ 10 ⌝ }
     ensures { λ r. ⌜ r ≡ numberAt (now (words .entry)) n ⌝ }
 {
-    let answer = text::parse(word(words, n));
+    let answer = word_value::parse(word(words, n));
     match answer {
         Parsed::Number(z) => z,
         Parsed::Wrong => 0,
@@ -54,7 +54,7 @@ pub fn unsigned_at(words: &[u8], n: usize) -> u32
     requires { ⌜ n ≤ 10 ⌝ }
     ensures { λ r. ⌜ r ≡ unsigned32 (numberAt (now (words .entry)) n) ⌝ }
 {
-    placement::unsigned32(number_at(words, n))
+    refusal::unsigned32(number_at(words, n))
 }
 
 // So many words, the fifth of them the kind, all others numbers.

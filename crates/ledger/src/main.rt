@@ -2,12 +2,12 @@
 // one space between the fields. A record that is refused prints `refused` and its number.
 use libc::STDIN_FILENO;
 use libc::STDOUT_FILENO;
-use scan_record::ReadScan;
+use record_reader::ReadScan;
 ghost use mathlib.Core.Path.{_≡_};
 ghost use Prim.Native.Nat.{_≤_, _<_};
-ghost use Rattle.remap.specs.Scan.{gatesOf};
-ghost use Rattle.scan_record.specs.RecordPlaces.{headIn};
-ghost use Rattle.scan_record.specs.RecordRefusal.{headRefusal};
+ghost use Rattle.scan.specs.Scan.{gatesOf};
+ghost use Rattle.record_layout.specs.RecordPlaces.{headIn};
+ghost use Rattle.record_layout.specs.RecordRefusal.{headRefusal};
 
 // Seven fields in order end within 163,892 bytes. Of a longer input one byte more is read: by theorem `long-refusal`
 // (crates/scan_record/proofs/LongRecords.antt) the number of that part is the number of the whole input.
@@ -18,10 +18,10 @@ fn main() {
 }
 
 fn print_ledger(bytes: &[u8]) {
-    let answer = scan_record::read_head(bytes);
+    let answer = record_reader::read_head(bytes);
     match answer {
         ReadScan::Refused(number) => print_refusal(number),
-        ReadScan::Head(head) => print_lines(bytes, remap::gates_of(head)),
+        ReadScan::Head(head) => print_lines(bytes, scan::gates_of(head)),
     }
 }
 
@@ -33,7 +33,7 @@ fn print_refusal(number: u32) {
 
 fn print_heading() {
     let mut line = [0u8; 256];
-    let n = gate_text::ledger_heading(&mut line);
+    let n = ledger_text::ledger_heading(&mut line);
     io::write_all(STDOUT_FILENO, &line[..n]);
 }
 
@@ -52,6 +52,6 @@ fn print_line(bytes: &[u8], k: usize)
     requires { ⌜ (headRefusal (now bytes) ≡ 0) × (k < gatesOf (headIn (now bytes))) ⌝ }
 {
     let mut line = [0u8; 256];
-    let n = gate_text::good_line(bytes, k, &mut line);
+    let n = ledger_text::good_line(bytes, k, &mut line);
     io::write_all(STDOUT_FILENO, &line[..n]);
 }

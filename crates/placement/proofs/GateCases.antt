@@ -12,20 +12,20 @@ use Rattle.arithmetic.specs.Nearness.{nearest}
 use Rattle.arithmetic.proofs.Floor.{floor-only}
 use Rattle.arithmetic.proofs.Integer.{as-difference, same-difference, differences}
 use Rattle.sine.specs.Quarters.{byQuarters, inTurn, inQuarter}
-use Rattle.sine.specs.Series.{arc, arcUnit, factorial, term, alternating, sineSeries, cosineSeries}
+use Rattle.sine_tables.specs.Series.{arc, arcUnit, factorial, term, alternating, sineSeries, cosineSeries}
 use Rattle.sine.specs.Sine.{quarterSine, sineOf}
-use Rattle.sine.specs.Tables.{Q, S, F, G}
-use Rattle.placement.specs.declared.arc.ArcTerms.{ArcTerms}
-use Rattle.placement.specs.declared.grid.Grid.{Grid}
-use Rattle.placement.specs.declared.grid.Grid.the-variants.{Radolan, Hrap}
-use Rattle.placement.specs.declared.position.RayTerms.{RayTerms}
-use Rattle.placement.specs.declared.position.Site.{Site}
-use Rattle.placement.specs.declared.position.SiteTerms.{SiteTerms}
-use Rattle.placement.specs.Arc.{d, d2, d3, d4, d5, sd, arcTerms}
+use Rattle.sine_tables.specs.Tables.{Q, S, F, G}
+use Rattle.projection.specs.declared.arc.ArcTerms.{ArcTerms}
+use Rattle.grid.specs.declared.kinds.Grid.{Grid}
+use Rattle.grid.specs.declared.kinds.Grid.the-variants.{Radolan, Hrap}
+use Rattle.projection.specs.declared.position.RayTerms.{RayTerms}
+use Rattle.grid.specs.declared.site.Site.{Site}
+use Rattle.projection.specs.declared.position.SiteTerms.{SiteTerms}
+use Rattle.projection.specs.Arc.{d, d2, d3, d4, d5, sd, arcTerms}
 use Rattle.placement.specs.GateCases.{xIsZero, meshColumnOfZero, exampleGrid, anyRadolan, GateHolds, columnAt}
-use Rattle.placement.specs.Position.{siteTerms, e, m, u, divisor, X, positionBy, positionOf}
-use Rattle.placement.specs.Sphere.{sphereOf, radolanSphere, hrapSphere}
-use Rattle.placement.specs.Window.{windowOf, indexOf}
+use Rattle.projection.specs.Position.{siteTerms, e, m, u, divisor, X, positionBy, positionOf}
+use Rattle.grid.specs.Sphere.{sphereOf, radolanSphere, hrapSphere}
+use Rattle.grid.specs.Window.{windowOf, indexOf}
 
 -- the sine of 0
 sine-of-zero : sineOf (pos 0) ≡ pos 0

@@ -2,15 +2,17 @@
 use mathlib.Core.Bool.{Bool, true, false, cond}
 use Prim.Native.Nat.{ℕ, _*_, _≤_}
 use Rattle.placement.specs.declared.gate.Placement.the-variants.{Inside, Outside}
-use Rattle.placement.specs.declared.grid.Grid.{Grid}
-use Rattle.placement.specs.declared.position.Position.{Position}
-use Rattle.placement.specs.declared.position.Site.{Site}
-use Rattle.placement.specs.Nearness.{positionError, WithinExact, PositionWithin}
-use Rattle.placement.specs.Position.{positionOf, positionBy}
-use Rattle.placement.specs.Sphere.{sphereOf}
-use Rattle.placement.specs.Window.{windowOf, inWindow, cellNumber, row, column, located}
-use Rattle.placement.proofs.GateTerms.{GoodGate, good-sphere}
-use Rattle.placement.proofs.PositionNear.{X-within, Y-within}
+use Rattle.grid.specs.declared.kinds.Grid.{Grid}
+use Rattle.projection.specs.declared.position.Position.{Position}
+use Rattle.grid.specs.declared.site.Site.{Site}
+use Rattle.projection.specs.Nearness.{positionError, WithinExact}
+use Rattle.placement.specs.GateNearness.{PositionWithin}
+use Rattle.projection.specs.Position.{positionOf, positionBy}
+use Rattle.grid.specs.Sphere.{sphereOf}
+use Rattle.grid.specs.Window.{windowOf, cellNumber}
+use Rattle.placement.specs.Located.{inWindow, row, column, located}
+use Rattle.projection.proofs.GateTerms.{GoodGate, good-sphere}
+use Rattle.projection.proofs.PositionNear.{X-within, Y-within}
 
 module _ (site : Site) (grid : Grid) (azimuth range : ℕ) (G : GoodGate site azimuth range) (bound : ℕ) (reached : positionError ≤ bound * 100) where
   pub position-within : WithinExact bound site grid azimuth range (positionOf (sphereOf grid) site azimuth range .x) (positionOf (sphereOf grid) site azimuth range .y)

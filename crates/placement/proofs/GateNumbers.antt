@@ -4,16 +4,17 @@ use mathlib.Core.Path.{_≡_, refl, ap, _∙_}
 use Prim.Native.Nat.{ℕ, zero, suc}
 use Rattle.placement.specs.declared.gate.Placement.{Placement}
 use Rattle.placement.specs.declared.gate.Placement.the-variants.{Inside, Outside}
-use Rattle.placement.specs.declared.grid.Grid.{Grid}
-use Rattle.placement.specs.declared.grid.Window.{Window}
-use Rattle.placement.specs.declared.position.Position.{Position}
-use Rattle.placement.specs.declared.position.Site.{Site}
-use Rattle.placement.specs.Answer.{gives, answered}
+use Rattle.grid.specs.declared.kinds.Grid.{Grid}
+use Rattle.grid.specs.declared.window.Window.{Window}
+use Rattle.projection.specs.declared.position.Position.{Position}
+use Rattle.grid.specs.declared.site.Site.{Site}
+use Rattle.refusal.specs.Answer.{gives, answered}
 use Rattle.placement.specs.Gate.{unlessRefused, placementOf, entryOf, placementAnswer, placedGate}
-use Rattle.placement.specs.Position.{positionOf}
-use Rattle.placement.specs.Refusal.{gateRefusal}
-use Rattle.placement.specs.Sphere.{sphereOf}
-use Rattle.placement.specs.Window.{windowOf, inWindow, located}
+use Rattle.projection.specs.Position.{positionOf}
+use Rattle.placement.specs.GateRefusal.{gateRefusal}
+use Rattle.grid.specs.Sphere.{sphereOf}
+use Rattle.grid.specs.Window.{windowOf}
+use Rattle.placement.specs.Located.{inWindow, located}
 
 located-told : (window : Window) (at : Position) → placementAnswer (located window at) ≡ gives (record { entry = entryOf (located window at); x = at .x; y = at .y })
 unfolding located placementAnswer entryOf

@@ -1,15 +1,5 @@
-pub mod Accepted
-pub mod Cells
-pub mod SphereRule
-pub mod ArcBounds
-pub mod ArcNear
-pub mod PositionBounds
-pub mod GateTerms
-pub mod PositionNear
 pub mod SurveyLimits
 pub mod OtherAnswers
 pub mod GateNear
 pub mod GateCases
-pub mod AnswerLaws
-pub mod UnsignedLaws
 pub mod GateNumbers

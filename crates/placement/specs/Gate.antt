@@ -3,13 +3,14 @@ use Prim.Native.Nat.{ℕ, zero, suc}
 use lib.IntN.{ℤ}
 use Rattle.placement.specs.declared.gate.Placement.{Placement}
 use Rattle.placement.specs.declared.gate.Placement.the-variants.{Inside, Outside, Refused}
-use Rattle.placement.specs.declared.grid.Grid.{Grid}
-use Rattle.placement.specs.declared.position.Site.{Site}
-use Rattle.placement.specs.Answer.{Answer, gives, refuses}
-use Rattle.placement.specs.Sphere.{sphereOf}
-use Rattle.placement.specs.Position.{positionOf}
-use Rattle.placement.specs.Window.{windowOf, located}
-use Rattle.placement.specs.Refusal.{gateRefusal}
+use Rattle.grid.specs.declared.kinds.Grid.{Grid}
+use Rattle.grid.specs.declared.site.Site.{Site}
+use Rattle.refusal.specs.Answer.{Answer, gives, refuses}
+use Rattle.grid.specs.Sphere.{sphereOf}
+use Rattle.projection.specs.Position.{positionOf}
+use Rattle.grid.specs.Window.{windowOf}
+use Rattle.placement.specs.Located.{located}
+use Rattle.placement.specs.GateRefusal.{gateRefusal}
 
 -- a refusal gives its number only
 unfoldable pub unlessRefused : ℕ → Placement → Placement

@@ -3,14 +3,14 @@
 use mathlib.Core.Path.{_≡_}
 use Prim.Native.Nat.{ℕ, _<_}
 use lib.IntN.{ℤ, pos, negsuc, _+ℤ_}
-use Rattle.placement.specs.declared.grid.Grid.{Grid}
-use Rattle.placement.specs.declared.grid.Grid.the-variants.{Radolan, Hrap}
-use Rattle.placement.specs.declared.grid.HrapGrid.{HrapGrid}
-use Rattle.placement.specs.declared.position.Site.{Site}
-use Rattle.placement.specs.Position.{positionOf}
-use Rattle.placement.specs.Refusal.{gateRefusal}
-use Rattle.placement.specs.Sphere.{sphereOf}
-use Rattle.placement.specs.Window.{windowOf, indexOf}
+use Rattle.grid.specs.declared.kinds.Grid.{Grid}
+use Rattle.grid.specs.declared.kinds.Grid.the-variants.{Radolan, Hrap}
+use Rattle.grid.specs.declared.kinds.HrapGrid.{HrapGrid}
+use Rattle.grid.specs.declared.site.Site.{Site}
+use Rattle.projection.specs.Position.{positionOf}
+use Rattle.placement.specs.GateRefusal.{gateRefusal}
+use Rattle.grid.specs.Sphere.{sphereOf}
+use Rattle.grid.specs.Window.{windowOf, indexOf}
 
 pub data GateCase : Type 0 where
   -- range 0 and a longitude, on a kind of grid: X = 0

@@ -5,16 +5,18 @@ use lib.ListN.{length}
 use Rattle.arithmetic.specs.Places.{table}
 use Rattle.arithmetic.specs.Magnitude.{Magnitude}
 use Rattle.placement.specs.declared.gate.Placement.{Placement}
-use Rattle.placement.specs.declared.grid.Grid.{Grid}
-use Rattle.placement.specs.declared.position.RayTerms.{RayTerms}
-use Rattle.placement.specs.declared.position.Site.{Site}
+use Rattle.grid.specs.declared.kinds.Grid.{Grid}
+use Rattle.projection.specs.declared.position.RayTerms.{RayTerms}
+use Rattle.grid.specs.declared.site.Site.{Site}
 use Rattle.placement.specs.declared.survey.Survey.{Survey}
-use Rattle.placement.specs.Arc.{arcTerms}
+use Rattle.projection.specs.Arc.{arcTerms}
 use Rattle.placement.specs.Gate.{entryOf}
-use Rattle.placement.specs.Position.{siteTerms, rayTerms, positionBy}
-use Rattle.placement.specs.Sphere.{sphereOf}
-use Rattle.placement.specs.Terms.{kLimit, SiteLimits, WindowLimits}
-use Rattle.placement.specs.Window.{windowOf, located}
+use Rattle.projection.specs.Position.{siteTerms, rayTerms, positionBy}
+use Rattle.grid.specs.Sphere.{sphereOf}
+use Rattle.projection.specs.Terms.{kLimit, SiteLimits}
+use Rattle.placement.specs.CellRoom.{WindowLimits}
+use Rattle.grid.specs.Window.{windowOf}
+use Rattle.placement.specs.Located.{located}
 
 unfoldable pub surveyOf : Site → Grid → Survey
 surveyOf site grid = record {

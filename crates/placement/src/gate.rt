@@ -1,33 +1,36 @@
 // The placement of one gate.
-use crate::arc::arc_terms;
-use crate::grid::Grid;
-use crate::grid::Window;
-use crate::grid::cell_number;
-use crate::grid::in_span;
-use crate::grid::index_of;
-use crate::position::Position;
-use crate::position::RayTerms;
-use crate::position::Site;
-use crate::position::position_of;
-use crate::position::ray_terms;
-use crate::refusal::azimuth_accepted;
-use crate::refusal::grid_accepted;
-use crate::refusal::range_accepted;
-use crate::refusal::site_accepted;
 use crate::survey::Survey;
 use crate::survey::survey_of;
+use grid::Grid;
+use grid::Site;
+use grid::Window;
+use grid::azimuth_accepted;
+use grid::cell_number;
+use grid::grid_accepted;
+use grid::in_span;
+use grid::index_of;
+use grid::range_accepted;
+use grid::site_accepted;
+use projection::Position;
+use projection::RayTerms;
+use projection::arc_terms;
+use projection::position_of;
+use projection::ray_terms;
 ghost use mathlib.Core.Path.{_≡_};
 ghost use mathlib.Core.Bool.{true};
 ghost use Prim.Native.Nat.{_≤_};
-ghost use Rattle.placement.specs.Answer.{answered};
+ghost use Rattle.refusal.specs.Answer.{answered};
 ghost use Rattle.placement.specs.Gate.{placementOf, placementAnswer, placedGate};
-ghost use Rattle.placement.specs.Nearness.{PositionWithin};
-ghost use Rattle.placement.specs.Position.{positionOf};
-ghost use Rattle.placement.specs.Refusal.{rangeAccepted, siteAccepted, gridAccepted, gateRefusal};
-ghost use Rattle.placement.specs.Sphere.{sphereOf};
+ghost use Rattle.placement.specs.GateNearness.{PositionWithin};
+ghost use Rattle.projection.specs.Position.{positionOf};
+ghost use Rattle.grid.specs.Accepted.{rangeAccepted, siteAccepted, gridAccepted};
+ghost use Rattle.placement.specs.GateRefusal.{gateRefusal};
+ghost use Rattle.grid.specs.Sphere.{sphereOf};
 ghost use Rattle.placement.specs.Survey.{Surveyed, surveyed};
-ghost use Rattle.placement.specs.Window.{windowOf, located};
-ghost use Rattle.placement.specs.Terms.{Reachable, RayLimits};
+ghost use Rattle.grid.specs.Window.{windowOf};
+ghost use Rattle.placement.specs.Located.{located};
+ghost use Rattle.placement.specs.CellRoom.{Reachable};
+ghost use Rattle.projection.specs.Terms.{RayLimits};
 
 // Where a gate lies: inside the grid in a cell, outside the grid, or refused with a number.
 pub enum Placement {

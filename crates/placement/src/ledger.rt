@@ -1,8 +1,8 @@
 // The ledger of one ray: for each of its gates, measured or not, the cell that it goes to.
 use crate::gate::Placement;
 use crate::gate::gate_at;
-use crate::position::ray_terms;
 use crate::survey::Survey;
+use projection::ray_terms;
 ghost use mathlib.Core.Path.{_≡_};
 ghost use Prim.Native.Nat.{_-_};
 ghost use lib.Seq.{sets};

@@ -1,15 +1,15 @@
 // What a site and a grid give once for all of their gates.
-use crate::grid::Grid;
-use crate::grid::Sphere;
-use crate::grid::Window;
-use crate::grid::sphere_of;
-use crate::grid::window_of;
-use crate::position::Site;
-use crate::position::SiteTerms;
-use crate::position::site_terms;
+use grid::Grid;
+use grid::Site;
+use grid::Sphere;
+use grid::Window;
+use grid::sphere_of;
+use grid::window_of;
+use projection::SiteTerms;
+use projection::site_terms;
 ghost use mathlib.Core.Path.{_≡_};
 ghost use mathlib.Core.Bool.{true};
-ghost use Rattle.placement.specs.Refusal.{siteAccepted, gridAccepted};
+ghost use Rattle.grid.specs.Accepted.{siteAccepted, gridAccepted};
 ghost use Rattle.placement.specs.Survey.{surveyOf};
 
 pub struct Survey {

@@ -13,25 +13,28 @@ use Rattle.arithmetic.proofs.Places.{table-length, table-at, table-ext, all-at}
 use Rattle.arithmetic.proofs.SetsLaws.{sets-whole}
 use Rattle.arithmetic.proofs.Test.{and-true}
 use Rattle.placement.specs.Gate.{placementOf, unlessRefused, entryOf}
-use Rattle.placement.specs.Position.{positionOf}
-use Rattle.placement.specs.Refusal.{inRange, rangeAccepted, azimuthAccepted, siteAccepted, gridAccepted, firstRefusal, gateRefusal}
+use Rattle.projection.specs.Position.{positionOf}
+use Rattle.refusal.specs.Checks.{inRange, firstRefusal}
+use Rattle.grid.specs.Accepted.{rangeAccepted, azimuthAccepted, siteAccepted, gridAccepted}
+use Rattle.placement.specs.GateRefusal.{gateRefusal}
 use Rattle.placement.specs.Survey.{Surveyed, surveyOf, surveyed, surveyedEntry}
 use Rattle.placement.proofs.SurveyLimits.{surveyed-of}
-use Rattle.remap.specs.declared.scan.ScanHead.{ScanHead}
-use Rattle.remap.specs.Publish.{publishedCells}
-use Rattle.remap.specs.Rays.{regularRays}
-use Rattle.remap.specs.LentLists.{Lists, Sums}
-use Rattle.remap.specs.Scan.{Scan, raysOf, gatesOf, cellsOf}
+use Rattle.scan.specs.declared.head.ScanHead.{ScanHead}
+use Rattle.cells.specs.Publish.{publishedCells}
+use Rattle.scan.specs.Rays.{regularRays}
+use Rattle.scan.specs.LentLists.{Lists}
+use Rattle.cells.specs.LentSums.{Sums}
+use Rattle.scan.specs.Scan.{Scan, raysOf, gatesOf, cellsOf}
 use Rattle.remap.specs.Remap.{ledgerOf, filledLists}
-use Rattle.remap.specs.ScanRefusal.{centresAccepted, qualityAccepted}
+use Rattle.scan.specs.ScanRefusal.{centresAccepted, qualityAccepted}
 use Rattle.remap.specs.LedgerRoom.{RaysSpan, surveyedLedger}
-use Rattle.remap.specs.Tally.{talliedSums, cleared, addedSums}
-use Rattle.remap.specs.TallyRoom.{Addable, Publishable}
-use Rattle.remap.proofs.AcceptedScan.{AcceptedScan}
-use Rattle.remap.proofs.RayLaws.{gates-length, gates-same, regular-gates}
-use Rattle.remap.proofs.TallyWidth.{GatesMost, count-fits, quality-sum-fits, value-sum-fits}
-use Rattle.remap.proofs.TallyFromNothing.{zeros-at, from-nothing}
-use Rattle.remap.proofs.PublishedRange.{mean-published, quality-published}
+use Rattle.cells.specs.Tally.{talliedSums, cleared, addedSums}
+use Rattle.cells.specs.TallyRoom.{Addable, Publishable}
+use Rattle.scan.proofs.AcceptedScan.{AcceptedScan}
+use Rattle.scan.proofs.RayLaws.{gates-length, gates-same, regular-gates}
+use Rattle.cells.proofs.TallyWidth.{GatesMost, count-fits, quality-sum-fits, value-sum-fits}
+use Rattle.cells.proofs.TallyFromNothing.{zeros-at, from-nothing}
+use Rattle.cells.proofs.PublishedRange.{mean-published, quality-published}
 
 -- the last centre is the farthest
 pub centres-most : (gates first spacing g : ℕ) → centresAccepted gates first spacing ≡ true → g < gates → first + g * spacing ≤ 46000000

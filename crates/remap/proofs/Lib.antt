@@ -1,15 +1,2 @@
-pub mod AcceptedScan
-pub mod RayLaws
-pub mod LedgerEntry
 pub mod ScanLedger
-pub mod TallyTurn
-pub mod TallyWidth
-pub mod TallySplit
-pub mod TallyFromNothing
-pub mod CountTotal
-pub mod PlacedTotal
-pub mod MeanBetween
-pub mod PublishedRange
 pub mod AcceptedRemap
-pub mod WholeScan
-pub mod MarkedCases

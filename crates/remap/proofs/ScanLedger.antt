@@ -11,7 +11,7 @@ use Rattle.arithmetic.proofs.Places.{table-length}
 use Rattle.arithmetic.proofs.SetsLaws.{sets-append}
 use Rattle.placement.specs.declared.survey.Survey.{Survey}
 use Rattle.placement.specs.Survey.{RaySpan, surveyedRay}
-use Rattle.remap.specs.Rays.{rayGates, allGates, regularRays}
+use Rattle.scan.specs.Rays.{rayGates, allGates, regularRays}
 use Rattle.remap.specs.LedgerRoom.{RaysSpan, surveyedLedger}
 
 -- the rays that are left to be written

@@ -4,7 +4,7 @@ use Prim.Native.Nat.{ℕ, _+_, _*_, _≤_, _<_}
 use lib.ListN.{length}
 use Rattle.placement.specs.declared.survey.Survey.{Survey}
 use Rattle.placement.specs.Survey.{surveyedEntry}
-use Rattle.remap.specs.Rays.{Ray, allGates}
+use Rattle.scan.specs.Rays.{Ray, allGates}
 
 -- rays of equal length, from a place of the ledger on
 pub record RaysSpan (gates first spacing start : ℕ) (azimuths ledger : List ℕ) : Type 0 where

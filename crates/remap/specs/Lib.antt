@@ -1,12 +1,2 @@
-pub mod Rays
-pub mod Scan
-pub mod LentLists
-pub mod ScanRefusal
-pub mod Gates
-pub mod Tally
-pub mod Publish
 pub mod Remap
-pub mod Placed
 pub mod LedgerRoom
-pub mod TallyRoom
-pub mod MarkedCases

@@ -4,17 +4,17 @@ use mathlib.Core.Path.{_≡_}
 use Prim.Native.Nat.{ℕ}
 use denote.Triple.Both.{Both}
 use Rattle.arithmetic.specs.Places.{table}
-use Rattle.placement.specs.Answer.{Answer, gives, refuses, answered, afterwards}
+use Rattle.refusal.specs.Answer.{Answer, gives, refuses, answered, afterwards}
 use Rattle.placement.specs.Gate.{placementOf, entryOf}
-use Rattle.remap.specs.declared.scan.Remapped.{Remapped}
-use Rattle.remap.specs.declared.scan.Remapped.the-variants.{Done, Refused}
-use Rattle.remap.specs.declared.scan.ScanHead.{ScanHead}
-use Rattle.remap.specs.LentLists.{Lists}
-use Rattle.remap.specs.Scan.{Scan, raysOf, cellsOf}
-use Rattle.remap.specs.ScanRefusal.{refusalFor}
-use Rattle.remap.specs.Rays.{Ray, allGates}
-use Rattle.remap.specs.Tally.{countOf, qualitySumOf, valueSumOf, talliedSums}
-use Rattle.remap.specs.Publish.{meanOf, divisorOf, qualityOf}
+use Rattle.remap.specs.declared.remap_scan.Remapped.{Remapped}
+use Rattle.remap.specs.declared.remap_scan.Remapped.the-variants.{Done, Refused}
+use Rattle.scan.specs.declared.head.ScanHead.{ScanHead}
+use Rattle.scan.specs.LentLists.{Lists}
+use Rattle.scan.specs.Scan.{Scan, raysOf, cellsOf}
+use Rattle.scan.specs.ScanRefusal.{refusalFor}
+use Rattle.scan.specs.Rays.{Ray, allGates}
+use Rattle.cells.specs.Tally.{countOf, qualitySumOf, valueSumOf, talliedSums}
+use Rattle.cells.specs.Publish.{meanOf, divisorOf, qualityOf}
 
 -- the ledger entry of each gate of the rays, measured or not
 unfoldable pub ledgerOf : ScanHead → List Ray → List ℕ

@@ -4,7 +4,7 @@ use placement::ray_ledger;
 ghost use mathlib.Core.Path.{_≡_};
 ghost use lib.Seq.{sets};
 ghost use Rattle.placement.specs.Survey.{Surveyed};
-ghost use Rattle.remap.specs.Rays.{regularRays};
+ghost use Rattle.scan.specs.Rays.{regularRays};
 ghost use Rattle.remap.specs.LedgerRoom.{RaysSpan, surveyedLedger};
 
 pub fn scan_ledger(

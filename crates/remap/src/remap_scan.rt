@@ -1,20 +1,19 @@
 // The whole scan: one scan, one site and one grid come in; out come the ledger, the cell sums and the published cells.
-use crate::clear::clear_sums;
 use crate::ledger::scan_ledger;
-use crate::publish::publish;
-use crate::scan::Lengths;
-use crate::scan::Remapped;
-use crate::scan::ScanHead;
-use crate::scan::azimuths_accepted;
-use crate::scan::lengths_accepted;
-use crate::scan::qualities_accepted;
-use crate::scan::scan_refusal;
-use crate::tally::tally;
+use cells::clear_sums;
+use cells::publish;
+use cells::tally;
+use scan::Lengths;
+use scan::ScanHead;
+use scan::azimuths_accepted;
+use scan::lengths_accepted;
+use scan::qualities_accepted;
+use scan::scan_refusal;
 ghost use mathlib.Core.Path.{_≡_};
-ghost use Rattle.remap.specs.LentLists.{listsHeld, lentLists};
+ghost use Rattle.scan.specs.LentLists.{listsHeld, lentLists};
 ghost use Rattle.remap.specs.Remap.{filledLists, Remaps};
-ghost use Rattle.remap.specs.Scan.{scanHeld};
-ghost use Rattle.remap.specs.ScanRefusal.{refusalFor};
+ghost use Rattle.scan.specs.Scan.{scanHeld};
+ghost use Rattle.scan.specs.ScanRefusal.{refusalFor};
 
 // Takes any scan whatever. A refusal gives its number only and leaves every lent list as it came in.
 pub fn remap(
@@ -116,4 +115,9 @@ fn accepted_remap(
         means,
         cell_qualities,
     );
+}
+
+pub enum Remapped {
+    Done,
+    Refused(u32),
 }

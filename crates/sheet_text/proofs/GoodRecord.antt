@@ -8,28 +8,29 @@ use borrow.Author.Tests.{eq-eqb}
 use lib.ListN.{length, getD}
 use Rattle.arithmetic.specs.Places.{sumTo, allOf}
 use Rattle.arithmetic.proofs.Places.{table-length}
-use Rattle.placement.specs.Refusal.{azimuthAccepted, gridAccepted}
-use Rattle.placement.specs.Window.{windowOf}
-use Rattle.placement.proofs.Accepted.{range-bounds}
-use Rattle.remap.specs.declared.scan.ScanHead.{ScanHead}
-use Rattle.remap.specs.Scan.{gatesOf, cellsOf, Scan}
-use Rattle.remap.specs.ScanRefusal.{listsAccepted, qualityAccepted, lengthsOf, listsExact, refusalFor}
-use Rattle.remap.specs.LentLists.{Lists}
+use Rattle.grid.specs.Accepted.{azimuthAccepted, gridAccepted}
+use Rattle.grid.specs.Window.{windowOf}
+use Rattle.refusal.proofs.RangeBounds.{range-bounds}
+use Rattle.scan.specs.declared.head.ScanHead.{ScanHead}
+use Rattle.scan.specs.Scan.{gatesOf, cellsOf, Scan}
+use Rattle.scan.specs.ScanRefusal.{listsAccepted, qualityAccepted, lengthsOf, listsExact, refusalFor}
+use Rattle.scan.specs.LentLists.{Lists}
 use Rattle.remap.specs.Remap.{filledLists, Remaps}
-use Rattle.placement.proofs.AnswerLaws.{filled-is}
-use Rattle.remap.specs.declared.scan.Remapped.{Remapped}
-use Rattle.remap.specs.Tally.{talliedSums}
-use Rattle.remap.specs.Placed.{placedOf}
-use Rattle.remap.proofs.PlacedTotal.{placed-total}
-use Rattle.remap.proofs.AcceptedScan.{AcceptedLengths, accepted-lengths, lengths-exact, AcceptedNumbers, window-size}
-use Rattle.scan_record.specs.declared.reader.ReadScan.{ReadScan}
-use Rattle.scan_record.specs.BigEndian.{numbersAt}
-use Rattle.scan_record.specs.RecordPlaces.{raysIn, gatesIn, headIn, azimuthsIn, valuesIn, qualitiesIn, scanIn}
-use Rattle.scan_record.specs.RecordLists.{RecordLists}
-use Rattle.scan_record.specs.RecordRefusal.{headRefusal, recordRefusal, readRefusal}
-use Rattle.scan_record.specs.RecordAnswer.{listsIn, Reads}
-use Rattle.scan_record.proofs.AcceptedRecord.{accepted-record, record-numbers}
-use Rattle.sheet_text.specs.SheetText.{sheetLines, goodSheet}
+use Rattle.refusal.proofs.AnswerLaws.{filled-is}
+use Rattle.remap.specs.declared.remap_scan.Remapped.{Remapped}
+use Rattle.cells.specs.Tally.{talliedSums}
+use Rattle.scan_laws.specs.Placed.{placedOf}
+use Rattle.scan_laws.proofs.PlacedTotal.{placed-total}
+use Rattle.scan.proofs.AcceptedScan.{AcceptedLengths, accepted-lengths, lengths-exact, AcceptedNumbers, window-size}
+use Rattle.record_reader.specs.declared.reader.ReadScan.{ReadScan}
+use Rattle.big_endian.specs.BigEndian.{numbersAt}
+use Rattle.record_layout.specs.RecordPlaces.{raysIn, gatesIn, headIn, azimuthsIn, valuesIn, qualitiesIn, scanIn}
+use Rattle.record_layout.specs.RecordLists.{RecordLists}
+use Rattle.record_layout.specs.RecordRefusal.{headRefusal, recordRefusal, readRefusal}
+use Rattle.record_reader.specs.RecordRead.{listsIn, Reads}
+use Rattle.record_layout.proofs.AcceptedRecord.{accepted-record, record-numbers}
+use Rattle.sheet_lines.specs.SheetLines.{sheetLines}
+use Rattle.sheet_text.specs.SheetText.{goodSheet}
 use Rattle.sheet_text.specs.SheetRoom.{Sized}
 
 -- ---- its numbers

@@ -1,3 +1,2 @@
-pub mod CellLines
 pub mod GoodRecord
 pub mod SheetAnswers

@@ -4,14 +4,15 @@ use mathlib.Core.List.{List}
 use Prim.Native.Nat.{ℕ, zero, suc, _≤_, _<_}
 use borrow.Author.Tests.{le-leb, lt-leb}
 use lib.ListN.{length}
-use Rattle.placement.specs.Answer.{refuses, answered}
-use Rattle.placement.proofs.AnswerLaws.{refused-is}
-use Rattle.remap.specs.declared.scan.ScanHead.{ScanHead}
-use Rattle.remap.specs.Scan.{gatesOf, cellsOf}
-use Rattle.scan_record.specs.RecordPlaces.{headIn}
-use Rattle.scan_record.specs.RecordRefusal.{headRefusal}
+use Rattle.refusal.specs.Answer.{refuses, answered}
+use Rattle.refusal.proofs.AnswerLaws.{refused-is}
+use Rattle.scan.specs.declared.head.ScanHead.{ScanHead}
+use Rattle.scan.specs.Scan.{gatesOf, cellsOf}
+use Rattle.record_layout.specs.RecordPlaces.{headIn}
+use Rattle.record_layout.specs.RecordRefusal.{headRefusal}
 use Rattle.text.specs.RefusedLine.{refusedLine}
-use Rattle.sheet_text.specs.SheetText.{tooLarge, refusedOr, goodSheet, sizedSheet, sheetText}
+use Rattle.sheet_lines.specs.SheetLines.{tooLarge}
+use Rattle.sheet_text.specs.SheetText.{refusedOr, goodSheet, sizedSheet, sheetText}
 
 -- ---- the two sizes
 

@@ -2,10 +2,10 @@
 use mathlib.Core.List.{List}
 use mathlib.Core.Path.{_≡_}
 use Prim.Native.Nat.{ℕ, _≤_}
-use Rattle.remap.specs.declared.scan.ScanHead.{ScanHead}
-use Rattle.remap.specs.Scan.{gatesOf, cellsOf}
-use Rattle.scan_record.specs.RecordPlaces.{headIn}
-use Rattle.scan_record.specs.RecordRefusal.{headRefusal}
+use Rattle.scan.specs.declared.head.ScanHead.{ScanHead}
+use Rattle.scan.specs.Scan.{gatesOf, cellsOf}
+use Rattle.record_layout.specs.RecordPlaces.{headIn}
+use Rattle.record_layout.specs.RecordRefusal.{headRefusal}
 
 -- a good record within the two sizes
 pub record Sized (bytes : List ℕ) (head : ScanHead) : Type 0 where

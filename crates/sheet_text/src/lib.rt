@@ -1,5 +1,4 @@
 // The sheet of a scan record: its cells as lines of text.
-mod lines;
 mod page;
 mod record_sheet;
 

@@ -1,15 +1,15 @@
 // What is printed for any bytes.
-use crate::lines::put_too_large;
 use crate::record_sheet::good_sheet;
-use remap::ScanHead;
-use scan_record::ReadScan;
+use record_reader::ReadScan;
+use scan::ScanHead;
+use sheet_lines::put_too_large;
 use text::put_refused;
 ghost use mathlib.Core.Path.{_≡_};
 ghost use Prim.Native.Nat.{_≤_};
 ghost use lib.ListN.{length};
 ghost use lib.Seq.{sets};
-ghost use Rattle.scan_record.specs.RecordPlaces.{headIn};
-ghost use Rattle.scan_record.specs.RecordRefusal.{headRefusal};
+ghost use Rattle.record_layout.specs.RecordPlaces.{headIn};
+ghost use Rattle.record_layout.specs.RecordRefusal.{headRefusal};
 ghost use Rattle.text.specs.StoredText.{Stored};
 ghost use Rattle.sheet_text.specs.SheetText.{sizedSheet, sheetText};
 
@@ -19,10 +19,10 @@ fn sized_sheet(bytes: &[u8], head: ScanHead, page: &mut [u8; 120000]) -> usize
     ensures { λ r. ⌜ r ≤ 120000 ⌝ }
     ensures { λ r. ⌜ Stored (now (page .entry)) 0 (sizedSheet (now (bytes .entry))) r (now (page .exit)) ⌝ }
 {
-    if 4096 < remap::gates_of(head) {
+    if 4096 < scan::gates_of(head) {
         return put_too_large(page);
     }
-    if 1024 < remap::cells_of(head) {
+    if 1024 < scan::cells_of(head) {
         return put_too_large(page);
     }
     good_sheet(bytes, head, page)
@@ -37,7 +37,7 @@ pub fn sheet(bytes: &[u8], page: &mut [u8; 120000]) -> usize
     if 16384 < bytes.len() {
         return put_too_large(page);
     }
-    match scan_record::read_head(bytes) {
+    match record_reader::read_head(bytes) {
         ReadScan::Refused(number) => put_refused(page, 0, number),
         ReadScan::Head(head) => sized_sheet(bytes, head, page),
     }

@@ -1,12 +1,12 @@
 // The sheet of a good record within the two sizes. The functions here are ours alone: record and sizes have been tested.
-use crate::lines::put_sheet;
-use remap::ScanHead;
+use scan::ScanHead;
+use sheet_lines::put_sheet;
 ghost use mathlib.Core.Bool.{true};
 ghost use mathlib.Core.Path.{_≡_};
 ghost use Prim.Native.Nat.{_≤_};
-ghost use Rattle.remap.specs.LentLists.{listsHeld};
-ghost use Rattle.remap.specs.Scan.{scanHeld};
-ghost use Rattle.remap.specs.ScanRefusal.{listsExact};
+ghost use Rattle.scan.specs.LentLists.{listsHeld};
+ghost use Rattle.scan.specs.Scan.{scanHeld};
+ghost use Rattle.scan.specs.ScanRefusal.{listsExact};
 ghost use Rattle.text.specs.StoredText.{Stored};
 ghost use Rattle.sheet_text.specs.SheetText.{goodSheet};
 ghost use Rattle.sheet_text.specs.SheetRoom.{Sized};
@@ -30,7 +30,7 @@ fn cells_text(
     ensures { λ r. ⌜ r ≤ 120000 ⌝ }
     ensures { λ r. ⌜ Stored (now (page .entry)) 0 (goodSheet (now (bytes .entry))) r (now (page .exit)) ⌝ }
 {
-    scan_record::read_scan(bytes, azimuths, values, qualities);
+    record_reader::read_scan(bytes, azimuths, values, qualities);
     remap::remap(
         head,
         azimuths,
@@ -44,8 +44,8 @@ fn cells_text(
         cell_qualities,
     );
     let grid = head.grid;
-    let window = placement::window_of(grid);
-    let gates = remap::gates_of(head);
+    let window = grid::window_of(grid);
+    let gates = scan::gates_of(head);
     put_sheet(
         page,
         window.columns,
@@ -64,8 +64,8 @@ pub fn good_sheet(bytes: &[u8], head: ScanHead, page: &mut [u8; 120000]) -> usiz
     ensures { λ r. ⌜ Stored (now (page .entry)) 0 (goodSheet (now (bytes .entry))) r (now (page .exit)) ⌝ }
 {
     let rays = head.rays as usize;
-    let gates = remap::gates_of(head);
-    let cells = remap::cells_of(head);
+    let gates = scan::gates_of(head);
+    let cells = scan::cells_of(head);
     let mut azimuths = [0u32; 720];
     let mut values = [0u16; 4096];
     let mut qualities = [0u8; 4096];

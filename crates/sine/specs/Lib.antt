@@ -1,5 +1,3 @@
-pub mod Series
-pub mod Tables
 pub mod Quarters
 pub mod Sine
 pub mod ExactSine

@@ -1,6 +1,4 @@
 // Document 01, "Sine of any angle": sine and cosine times Q = 2^30, of an angle in ten-thousandths of a degree.
-mod tables;
-
 ghost use mathlib.Core.Path.{_≡_};
 ghost use Prim.Native.Nat.{_*_, _<_, _≤_};
 ghost use lib.IntN.{negℤ};
@@ -62,8 +60,9 @@ fn quarter_sine(t: u32) -> i64
 {
     let a = (t / 1000) as usize;
     let b = (t % 1000) as usize;
-    let s = tables::coarse_sines();
-    let sum = product(s[a], tables::fine_cosine(b)) + product(s[900 - a], tables::fine_sine(b));
+    let s = sine_tables::coarse_sines();
+    let sum = product(s[a], sine_tables::fine_cosine(b))
+        + product(s[900 - a], sine_tables::fine_sine(b));
     (sum / Q) as i64
 }
 

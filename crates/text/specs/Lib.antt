@@ -1,4 +1,3 @@
 pub mod DecimalText
 pub mod StoredText
 pub mod RefusedLine
-pub mod WordValue

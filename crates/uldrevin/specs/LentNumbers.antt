@@ -5,8 +5,8 @@ use denote.Ref.{RefT, now}
 use denote.Triple.Both.{Both}
 use lib.IntN.{ℤ}
 use Rattle.placement.specs.Gate.{PlacedGate}
-use Rattle.remap.specs.LentLists.{Lent}
-use Rattle.scan_record.specs.RecordLists.{RecordLists, lentRecordLists}
+use Rattle.cells.specs.LentSums.{Lent}
+use Rattle.record_layout.specs.RecordLists.{RecordLists, lentRecordLists}
 
 -- the numbers of a scan's head, and its lists
 pub record ScanNumbers : Type 0 where

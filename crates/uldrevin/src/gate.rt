@@ -1,17 +1,17 @@
 // The placement of one gate. The answer is 0, with cell, X and Y written, or the refusal number, with the three as they came in. The
 // cell of a gate outside the grid is 4,294,967,295.
-use crate::structs::GridNumbers;
-use crate::structs::grid_of;
+use c_structs::GridNumbers;
+use c_structs::grid_of;
+use grid::Site;
 use placement::Placement;
-use placement::Site;
-use placement::unsigned32;
-ghost use Rattle.placement.specs.Answer.{numberIn, leftBy, Answers};
+use refusal::unsigned32;
+ghost use Rattle.refusal.specs.Answer.{numberIn, leftBy, Answers};
 ghost use Rattle.placement.specs.Gate.{placementAnswer, placedGate};
-ghost use Rattle.placement.specs.Refusal.{gateRefusal};
-ghost use Rattle.placement.specs.Unsigned as spec;
+ghost use Rattle.placement.specs.GateRefusal.{gateRefusal};
+ghost use Rattle.refusal.specs.Unsigned as spec;
 ghost use mathlib.Core.Path.{_≡_};
 ghost use Rattle.uldrevin.specs.LentNumbers.{lentGate};
-ghost use Rattle.uldrevin.specs.Structs.{siteAt, gridAt, gridOf};
+ghost use Rattle.c_structs.specs.Structs.{siteAt, gridAt, gridOf};
 
 #[no_mangle]
 pub extern "C" fn uldrevin_place(

@@ -1,8 +1,7 @@
 // What C, Rust and Python link: the proved functions under C names.
 pub mod gate;
 pub mod record;
-pub mod scan;
-mod structs;
+pub mod whole_scan;
 
 ghost use mathlib.Core.Path.{_≡_};
 ghost use Rattle.sine.specs.Sine.{sineOf, cosineOf};

@@ -1,18 +1,21 @@
 // The scan record. The answer is 0, with what is lent written, or the refusal number, with all that is lent as it came in.
-use crate::structs::head_of;
-use crate::structs::put_head;
-use scan_record::ReadScan;
-use scan_record::WrittenScan;
+use c_structs::head_of;
+use c_structs::put_head;
+use record_reader::ReadScan;
+use record_writer::WrittenScan;
 ghost use mathlib.Core.Path.{_≡_};
 ghost use lib.ListN.{length};
-ghost use Rattle.placement.specs.Answer.{numberIn, leftBy, Answers};
-ghost use Rattle.remap.specs.Scan.{scanHeld};
-ghost use Rattle.scan_record.specs.RecordAnswer.{readAnswer, listsIn, fieldPlace, fieldPart, writtenAnswer, bufferWith};
-ghost use Rattle.scan_record.specs.RecordBytes.{recordOf};
-ghost use Rattle.scan_record.specs.RecordPlaces.{headIn};
-ghost use Rattle.scan_record.specs.RecordRefusal.{headRefusal, readRefusal, writeRefusal};
+ghost use Rattle.refusal.specs.Answer.{numberIn, leftBy, Answers};
+ghost use Rattle.scan.specs.Scan.{scanHeld};
+ghost use Rattle.record_reader.specs.RecordRead.{readAnswer, listsIn};
+ghost use Rattle.record_reader.specs.FieldPart.{fieldPlace, fieldPart};
+ghost use Rattle.record_writer.specs.RecordWritten.{writtenAnswer, bufferWith};
+ghost use Rattle.record_writer.specs.RecordBytes.{recordOf};
+ghost use Rattle.record_layout.specs.RecordPlaces.{headIn};
+ghost use Rattle.record_layout.specs.RecordRefusal.{headRefusal, readRefusal};
+ghost use Rattle.record_writer.specs.WriteRefusal.{writeRefusal};
 ghost use Rattle.uldrevin.specs.LentNumbers.{lentHead, lentScan, lentField, lentWritten};
-ghost use Rattle.uldrevin.specs.Structs.{headOf, headNumbers, headLeft};
+ghost use Rattle.c_structs.specs.Structs.{headOf, headNumbers, headLeft};
 
 // ---- as read
 
@@ -22,7 +25,7 @@ pub extern "C" fn uldrevin_record_head(bytes: &[u8], scan: &mut [i64; 13]) -> u3
         let given = now (bytes .entry) in
         ⌜ Answers (headRefusal given) (headNumbers (headIn given)) (lentHead scan) r ⌝ }
 {
-    answer_head(scan_record::read_head(bytes), scan)
+    answer_head(record_reader::read_head(bytes), scan)
 }
 
 #[no_mangle]
@@ -39,7 +42,7 @@ pub extern "C" fn uldrevin_record_read(
         ⌜ Answers (readRefusal given (lent .entry .lists)) (record { head = headNumbers (headIn given); lists = listsIn given }) lent r ⌝ }
 {
     answer_head(
-        scan_record::read_scan(bytes, azimuths, values, qualities),
+        record_reader::read_scan(bytes, azimuths, values, qualities),
         scan,
     )
 }
@@ -56,13 +59,13 @@ pub extern "C" fn uldrevin_record_field(
         let given = now (bytes .entry) in
         ⌜ Answers (headRefusal given) (record { start = fieldPlace given number; size = length (fieldPart given number) }) (lentField start size) r ⌝ }
 {
-    let refusal = read_number(scan_record::read_head(bytes));
+    let refusal = read_number(record_reader::read_head(bytes));
     if refusal != 0 {
         return refusal;
     }
     let field = number as usize;
-    *start = scan_record::field_place(bytes, field) as u64;
-    *size = scan_record::field(bytes, field).len() as u64;
+    *start = record_reader::field_place(bytes, field) as u64;
+    *size = record_reader::field(bytes, field).len() as u64;
     0
 }
 
@@ -84,7 +87,7 @@ pub extern "C" fn uldrevin_record_write(
 {
     let head = head_of(scan);
     answer_size(
-        scan_record::write_scan(head, azimuths, values, qualities, buffer),
+        record_writer::write_scan(head, azimuths, values, qualities, buffer),
         size,
     )
 }

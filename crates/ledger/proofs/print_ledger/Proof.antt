@@ -1,9 +1,9 @@
 -- `ledger::print_ledger` meets its contract. Assumes nothing.
 use mathlib.Core.Path.{sym, ap, _∙_}
 use native.Mathlib.Omega.{arith}
-use Rattle.placement.proofs.AnswerLaws.{given-is}
-use Rattle.remap.specs.Scan.{gatesOf}
-use Rattle.scan_record.specs.RecordAnswer.{readAnswer}
+use Rattle.refusal.proofs.AnswerLaws.{given-is}
+use Rattle.scan.specs.Scan.{gatesOf}
+use Rattle.record_reader.specs.RecordRead.{readAnswer}
 use borrow.Author.Needs.{needs}
 use Rattle.ledger.proofs.print_ledger.Statement.{statement}
 use Rattle.ledger.proofs.print_ledger.Tie as tie

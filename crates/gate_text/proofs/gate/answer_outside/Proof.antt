@@ -2,7 +2,7 @@
 use native.Mathlib.Omega.{arith}
 use mir.Facts.{toZ-ofZ}
 use Rattle.gate_text.specs.GateText.{answerWords}
-use Rattle.gate_text.specs.LedgerLine.{outsideWord}
+use Rattle.ledger_text.specs.LedgerLine.{outsideWord}
 use Rattle.text.proofs.StoredLaws.{line-last, line-before}
 use borrow.Author.Needs.{needs}
 use Rattle.gate_text.proofs.gate.answer_outside.Statement.{statement}

@@ -7,7 +7,7 @@ use mir.Syntax.{w64}
 use mir.Val.{SFits}
 use Rattle.text.specs.RefusedLine.{refusedLine}
 use Rattle.gate_text.specs.GateText.{answerWords}
-use Rattle.gate_text.specs.PlacedColumns.{columnsThere}
+use Rattle.ledger_text.specs.PlacedColumns.{columnsThere}
 use borrow.Author.Needs.{needs}
 use Rattle.gate_text.proofs.gate.put_answer.Statement.{statement}
 use Rattle.gate_text.proofs.gate.put_answer.Tie as tie

@@ -1,6 +1,6 @@
 -- `gate_text::gate::put_given` meets its contract. Assumes nothing.
 use Rattle.gate_text.proofs.GateAnswer.{answer-text-is}
-use Rattle.gate_text.proofs.PlacedColumns.{placed-columns}
+use Rattle.ledger_text.proofs.PlacedColumns.{placed-columns}
 use Rattle.text.proofs.StoredLaws.{stored-same}
 use borrow.Author.Needs.{needs}
 use Rattle.gate_text.proofs.gate.put_given.Statement.{statement}

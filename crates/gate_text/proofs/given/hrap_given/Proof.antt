@@ -1,5 +1,5 @@
 -- `gate_text::given::hrap_given` meets its contract. Assumes nothing.
-use Rattle.scan_record.proofs.ReadNumbers.{read-result}
+use Rattle.big_endian.proofs.ReadNumbers.{read-result}
 use Rattle.gate_text.specs.GateText.{hrapGiven}
 use borrow.Author.Needs.{needs}
 use Rattle.gate_text.proofs.given.hrap_given.Statement.{statement}

@@ -1,6 +1,6 @@
 -- `gate_text::given::is_number` meets its contract. Assumes nothing.
 use mathlib.Core.Path.{sym, ap, _∙_}
-use Rattle.text.specs.WordValue.{parsed}
+use Rattle.word_value.specs.WordValue.{parsed}
 use Rattle.gate_text.specs.GivenWords.{isNumber, isNumberAt}
 use borrow.Author.Needs.{needs}
 use Rattle.gate_text.proofs.given.is_number.Statement.{statement}

@@ -3,7 +3,7 @@ use mathlib.Core.Path.{sym, ap, _∙_}
 use mir.Facts.{toZ-ofZ}
 use mir.Syntax.{w64}
 use mir.Val.{SFits}
-use Rattle.text.specs.WordValue.{parsed}
+use Rattle.word_value.specs.WordValue.{parsed}
 use Rattle.gate_text.specs.GivenWords.{numberOf, numberAt}
 use borrow.Author.Needs.{needs}
 use Rattle.gate_text.proofs.given.number_at.Statement.{statement}

@@ -1,5 +1,5 @@
 -- `gate_text::given::radolan_given` meets its contract. Assumes nothing.
-use Rattle.scan_record.proofs.ReadNumbers.{read-result}
+use Rattle.big_endian.proofs.ReadNumbers.{read-result}
 use Rattle.gate_text.specs.GateText.{radolanGiven}
 use borrow.Author.Needs.{needs}
 use Rattle.gate_text.proofs.given.radolan_given.Statement.{statement}

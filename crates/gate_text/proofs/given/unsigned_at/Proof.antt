@@ -1,7 +1,7 @@
 -- `gate_text::given::unsigned_at` meets its contract. Assumes nothing.
 use mathlib.Core.Path.{ap, _∙_}
-use Rattle.scan_record.proofs.ReadNumbers.{read-result}
-use Rattle.placement.specs.Unsigned.{unsigned32}
+use Rattle.big_endian.proofs.ReadNumbers.{read-result}
+use Rattle.refusal.specs.Unsigned.{unsigned32}
 use borrow.Author.Needs.{needs}
 use Rattle.gate_text.proofs.given.unsigned_at.Statement.{statement}
 use Rattle.gate_text.proofs.given.unsigned_at.Tie as tie

@@ -1,9 +1,9 @@
 -- `placement::gate::accepted_place` meets its contract: the survey and the ray have what the gate asks. Assumes nothing.
 use borrow.Author.Needs.{needs}
-use Rattle.placement.specs.Position.{positionOf}
+use Rattle.projection.specs.Position.{positionOf}
 use Rattle.placement.specs.Survey.{surveyOf, surveyed}
-use Rattle.placement.proofs.Accepted.{accepted-range}
-use Rattle.placement.proofs.GateTerms.{ray-limits}
+use Rattle.grid.proofs.Accepted.{accepted-range}
+use Rattle.projection.proofs.GateTerms.{ray-limits}
 use Rattle.placement.proofs.SurveyLimits.{surveyed-of}
 use Rattle.placement.proofs.gate.accepted_place.Statement.{statement}
 use Rattle.placement.proofs.gate.accepted_place.Tie as tie

@@ -8,11 +8,12 @@ use mir.Syntax.{w64}
 use mir.Val.{SFits, toZ, ofZ}
 use Rattle.arithmetic.proofs.Machine.{fits64, fits64-floor, read-back}
 use Rattle.arithmetic.proofs.Magnitude.{magnitude-difference}
-use Rattle.placement.specs.Window.{indexOf, inSpan, column, row, inWindow, located}
-use Rattle.placement.specs.Terms.{Reachable}
-use Rattle.placement.specs.declared.grid.Window.{Window}
-use Rattle.placement.specs.declared.position.Position.{Position}
-use Rattle.placement.proofs.Cells.{in-span-wider}
+use Rattle.grid.specs.Window.{indexOf, inSpan}
+use Rattle.placement.specs.Located.{column, row, inWindow, located}
+use Rattle.placement.specs.CellRoom.{Reachable}
+use Rattle.grid.specs.declared.window.Window.{Window}
+use Rattle.projection.specs.declared.position.Position.{Position}
+use Rattle.grid.proofs.Cells.{in-span-wider}
 use Rattle.placement.proofs.gate.cell_at.Statement.{statement}
 use Rattle.placement.proofs.gate.cell_at.Tie as tie
 

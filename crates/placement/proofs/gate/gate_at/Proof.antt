@@ -3,8 +3,8 @@ use mathlib.Core.Path.{_≡_}
 use borrow.Author.Needs.{needs}
 use mir.Facts.{toZ-ofZ}
 use Rattle.arithmetic.proofs.Machine.{fits64}
-use Rattle.placement.specs.Arc.{arcTerms}
-use Rattle.placement.specs.Position.{positionBy}
+use Rattle.projection.specs.Arc.{arcTerms}
+use Rattle.projection.specs.Position.{positionBy}
 use Rattle.placement.specs.Survey.{surveyed}
 use Rattle.placement.proofs.SurveyLimits.{survey-sound, survey-reachable}
 use Rattle.placement.proofs.gate.gate_at.Statement.{statement}

@@ -8,11 +8,13 @@ use lib.Dec.{lit≤}
 use Rattle.placement.specs.declared.gate.Placement.{Placement}
 use Rattle.placement.specs.declared.gate.Placement.the-variants.{Refused}
 use Rattle.placement.specs.Gate.{unlessRefused, placementOf}
-use Rattle.placement.specs.Nearness.{PositionWithin}
-use Rattle.placement.specs.Refusal.{rangeAccepted, siteAccepted, gridAccepted, azimuthAccepted, firstRefusal, gateRefusal}
+use Rattle.placement.specs.GateNearness.{PositionWithin}
+use Rattle.grid.specs.Accepted.{rangeAccepted, siteAccepted, gridAccepted, azimuthAccepted}
+use Rattle.refusal.specs.Checks.{firstRefusal}
+use Rattle.placement.specs.GateRefusal.{gateRefusal}
 use Rattle.placement.proofs.GateNear.{located-within}
 use Rattle.placement.proofs.GateNumbers.{numbers-told}
-use Rattle.placement.proofs.GateTerms.{good-gate}
+use Rattle.projection.proofs.GateTerms.{good-gate}
 use Rattle.placement.proofs.gate.place.Statement.{statement}
 use Rattle.placement.proofs.gate.place.Tie as tie
 

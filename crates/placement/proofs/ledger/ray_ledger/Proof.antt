@@ -8,7 +8,7 @@ use borrow.Author.Needs.{needs, scaled-fits}
 use lib.ListN.{length}
 use Rattle.placement.specs.Gate.{entryOf}
 use Rattle.placement.specs.Survey.{surveyedEntry, surveyedRay}
-use Rattle.placement.proofs.GateTerms.{ray-limits}
+use Rattle.projection.proofs.GateTerms.{ray-limits}
 use Rattle.arithmetic.proofs.StoredTable.{Storing, storing-none, storing-next}
 use Rattle.placement.proofs.OtherAnswers.{not-inside}
 use Rattle.placement.proofs.ledger.ray_ledger.Statement.{statement}

@@ -3,11 +3,11 @@ use mathlib.Core.Path.{_≡_}
 use borrow.Author.Needs.{needs}
 use mir.Facts.{toZ-ofZ}
 use Rattle.arithmetic.proofs.Machine.{fits64}
-use Rattle.placement.specs.Position.{siteTerms}
-use Rattle.placement.specs.Sphere.{sphereOf}
+use Rattle.projection.specs.Position.{siteTerms}
+use Rattle.grid.specs.Sphere.{sphereOf}
 use Rattle.placement.specs.Survey.{surveyOf}
-use Rattle.placement.proofs.Accepted.{accepted-site}
-use Rattle.placement.proofs.GateTerms.{good-sphere}
+use Rattle.grid.proofs.Accepted.{accepted-site}
+use Rattle.projection.proofs.GateTerms.{good-sphere}
 use Rattle.placement.proofs.survey.survey_of.Statement.{statement}
 use Rattle.placement.proofs.survey.survey_of.Tie as tie
 

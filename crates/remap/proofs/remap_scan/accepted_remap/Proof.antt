@@ -3,11 +3,12 @@ use mathlib.Core.Path.{_≡_, ap, _∙_}
 use Prim.Native.Nat.{ℕ, _≤_}
 use native.Mathlib.Omega.{arith}
 use lib.ListN.{getD}
-use Rattle.remap.specs.LentLists.{Sums, Cells, Lists, listsHeld}
+use Rattle.cells.specs.LentSums.{Sums, Cells}
+use Rattle.scan.specs.LentLists.{Lists, listsHeld}
 use Rattle.remap.specs.Remap.{filledLists}
-use Rattle.remap.specs.Scan.{Scan, scanHeld}
-use Rattle.remap.specs.Tally.{cleared, addedSums}
-use Rattle.remap.proofs.AcceptedScan.{AcceptedScan, accepted-scan}
+use Rattle.scan.specs.Scan.{Scan, scanHeld}
+use Rattle.cells.specs.Tally.{cleared, addedSums}
+use Rattle.scan.proofs.AcceptedScan.{AcceptedScan, accepted-scan}
 use Rattle.remap.proofs.AcceptedRemap.{is-surveyed, rays-span, ledger-is, addable, sums-are, publishable, cells-are}
 use borrow.Author.Needs.{needs}
 use Rattle.remap.proofs.remap_scan.accepted_remap.Statement.{statement}

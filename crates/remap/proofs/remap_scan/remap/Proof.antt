@@ -1,11 +1,11 @@
 -- `remap::remap_scan::remap` meets its contract: a refused scan leaves every list, an accepted one fills each. Assumes nothing.
 use mathlib.Core.Path.{_≡_, refl, sym, _∙_}
 use Prim.Native.Nat.{ℕ}
-use Rattle.remap.specs.LentLists.{listsHeld}
+use Rattle.scan.specs.LentLists.{listsHeld}
 use Rattle.remap.specs.Remap.{remapAnswer}
-use Rattle.remap.specs.Scan.{scanHeld}
-use Rattle.remap.specs.ScanRefusal.{listsExact, scanRefusal, refusalFor}
-use Rattle.placement.proofs.AnswerLaws.{is-refused, is-given, kept, filled}
+use Rattle.scan.specs.Scan.{scanHeld}
+use Rattle.scan.specs.ScanRefusal.{listsExact, scanRefusal, refusalFor}
+use Rattle.refusal.proofs.AnswerLaws.{is-refused, is-given, kept, filled}
 use borrow.Author.Needs.{needs}
 use Rattle.remap.proofs.remap_scan.remap.Statement.{statement}
 use Rattle.remap.proofs.remap_scan.remap.Tie as tie

@@ -1,8 +1,8 @@
 -- `sheet_text::page::sheet` meets its contract. Assumes nothing.
 use mathlib.Core.Path.{sym, ap, _∙_}
 use native.Mathlib.Omega.{arith}
-use Rattle.placement.proofs.AnswerLaws.{given-is}
-use Rattle.scan_record.specs.RecordAnswer.{readAnswer}
+use Rattle.refusal.proofs.AnswerLaws.{given-is}
+use Rattle.record_reader.specs.RecordRead.{readAnswer}
 use Rattle.text.proofs.StoredLaws.{stored-same, answered}
 use Rattle.sheet_text.proofs.SheetAnswers.{bytes-too-many, is-refused, is-sized}
 use borrow.Author.Needs.{needs}

@@ -1,9 +1,9 @@
 -- `sheet_text::record_sheet::cells_text` meets its contract: read, remapped, printed. Assumes nothing.
 use mathlib.Core.Path.{_≡_, sym, ap, _∙_}
-use Rattle.remap.specs.LentLists.{Lists, listsHeld}
+use Rattle.scan.specs.LentLists.{Lists, listsHeld}
 use Rattle.remap.specs.Remap.{filledLists}
-use Rattle.remap.specs.Scan.{Scan, scanHeld, cellsOf}
-use Rattle.scan_record.specs.RecordPlaces.{scanIn}
+use Rattle.scan.specs.Scan.{Scan, scanHeld, cellsOf}
+use Rattle.record_layout.specs.RecordPlaces.{scanIn}
 use native.Mathlib.Omega.{arith}
 use Rattle.sheet_text.proofs.GoodRecord.{grid-good, columns-least, scan-read, remapped, counts-length, means-length, cell-qualities-length, is-sheet}
 use Rattle.text.proofs.StoredLaws.{stored-same}

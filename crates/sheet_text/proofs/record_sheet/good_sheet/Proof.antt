@@ -2,8 +2,8 @@
 use mathlib.Core.Path.{sym, _∙_}
 use native.Mathlib.Omega.{arith}
 use lib.Seq.{length-take-le}
-use Rattle.remap.specs.ScanRefusal.{listsExact}
-use Rattle.remap.proofs.AcceptedScan.{lengths-exact}
+use Rattle.scan.specs.ScanRefusal.{listsExact}
+use Rattle.scan.proofs.AcceptedScan.{lengths-exact}
 use Rattle.sheet_text.proofs.GoodRecord.{rays-most}
 use borrow.Author.Needs.{needs}
 use Rattle.sheet_text.proofs.record_sheet.good_sheet.Statement.{statement}

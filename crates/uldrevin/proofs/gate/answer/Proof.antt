@@ -1,8 +1,9 @@
 -- `uldrevin::gate::answer` meets its contract, case by case. Assumes nothing.
 use mathlib.Core.Path.{refl}
-use Rattle.placement.specs.Answer.{numberIn, leftBy}
+use Rattle.refusal.specs.Answer.{numberIn, leftBy}
 use Rattle.placement.specs.Gate.{placementAnswer}
-use Rattle.uldrevin.proofs.StructNumbers.{word-back, same-gate}
+use Rattle.c_structs.proofs.StructNumbers.{word-back}
+use Rattle.uldrevin.proofs.SameGate.{same-gate}
 use borrow.Author.Needs.{needs}
 use Rattle.uldrevin.proofs.gate.answer.Statement.{statement}
 use Rattle.uldrevin.proofs.gate.answer.Tie as tie

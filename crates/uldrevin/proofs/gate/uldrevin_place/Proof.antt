@@ -4,15 +4,15 @@ use Prim.Native.Nat.{ℕ}
 use lib.IntN.{pos}
 use lib.ListN.{getD}
 use mir.Facts.{toZ-ofZ}
-use Rattle.placement.specs.declared.grid.Grid.{Grid}
-use Rattle.placement.specs.declared.position.Site.{Site}
-use Rattle.placement.specs.Answer.{Answer, answered, numberIn, leftBy}
+use Rattle.grid.specs.declared.kinds.Grid.{Grid}
+use Rattle.grid.specs.declared.site.Site.{Site}
+use Rattle.refusal.specs.Answer.{Answer, answered, numberIn, leftBy}
 use Rattle.placement.specs.Gate.{PlacedGate, placementAnswer, placedGate}
-use Rattle.placement.specs.Refusal.{gateRefusal}
-use Rattle.placement.specs.Unsigned.{unsigned32}
-use Rattle.placement.proofs.AnswerLaws.{number-in, left-by}
-use Rattle.uldrevin.specs.Structs.{siteAt, gridAt, gridOf}
-use Rattle.uldrevin.proofs.StructNumbers.{word-back}
+use Rattle.placement.specs.GateRefusal.{gateRefusal}
+use Rattle.refusal.specs.Unsigned.{unsigned32}
+use Rattle.refusal.proofs.AnswerLaws.{number-in, left-by}
+use Rattle.c_structs.specs.Structs.{siteAt, gridAt, gridOf}
+use Rattle.c_structs.proofs.StructNumbers.{word-back}
 use borrow.Author.Needs.{needs}
 use Rattle.uldrevin.proofs.gate.uldrevin_place.Statement.{statement}
 use Rattle.uldrevin.proofs.gate.uldrevin_place.Tie as tie

@@ -1,8 +1,8 @@
 -- `uldrevin::record::answer_head` meets its contract. Assumes nothing.
 use mathlib.Core.Path.{refl}
-use Rattle.placement.specs.Answer.{numberIn}
-use Rattle.scan_record.specs.RecordAnswer.{readAnswer}
-use Rattle.uldrevin.specs.Structs.{headLeft}
+use Rattle.refusal.specs.Answer.{numberIn}
+use Rattle.record_reader.specs.RecordRead.{readAnswer}
+use Rattle.c_structs.specs.Structs.{headLeft}
 use borrow.Author.Needs.{needs}
 use Rattle.uldrevin.proofs.record.answer_head.Statement.{statement}
 use Rattle.uldrevin.proofs.record.answer_head.Tie as tie

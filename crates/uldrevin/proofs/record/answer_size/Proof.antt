@@ -1,7 +1,7 @@
 -- `uldrevin::record::answer_size` meets its contract. Assumes nothing.
 use mathlib.Core.Path.{refl}
-use Rattle.placement.specs.Answer.{numberIn, leftBy}
-use Rattle.scan_record.specs.RecordAnswer.{writtenAnswer}
+use Rattle.refusal.specs.Answer.{numberIn, leftBy}
+use Rattle.record_writer.specs.RecordWritten.{writtenAnswer}
 use borrow.Author.Needs.{needs}
 use Rattle.uldrevin.proofs.record.answer_size.Statement.{statement}
 use Rattle.uldrevin.proofs.record.answer_size.Tie as tie

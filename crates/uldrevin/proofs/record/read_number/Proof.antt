@@ -1,8 +1,8 @@
 -- `uldrevin::record::read_number` meets its contract. Assumes nothing.
 use mathlib.Core.Path.{sym, ap}
-use Rattle.placement.specs.Answer.{numberIn}
-use Rattle.scan_record.specs.declared.reader.ReadScan.{ReadScan}
-use Rattle.scan_record.specs.RecordAnswer.{readAnswer}
+use Rattle.refusal.specs.Answer.{numberIn}
+use Rattle.record_reader.specs.declared.reader.ReadScan.{ReadScan}
+use Rattle.record_reader.specs.RecordRead.{readAnswer}
 use borrow.Author.Needs.{needs}
 use Rattle.uldrevin.proofs.record.read_number.Statement.{statement}
 use Rattle.uldrevin.proofs.record.read_number.Tie as tie

@@ -1,9 +1,9 @@
 -- `uldrevin::record::uldrevin_record_field` meets its contract. Assumes nothing.
 use mathlib.Core.Path.{_≡_, sym, ap, _∙_}
 use lib.ListN.{length}
-use Rattle.placement.specs.Answer.{numberIn}
-use Rattle.placement.proofs.AnswerLaws.{number-in, kept, filled}
-use Rattle.scan_record.specs.RecordRefusal.{headRefusal}
+use Rattle.refusal.specs.Answer.{numberIn}
+use Rattle.refusal.proofs.AnswerLaws.{number-in, kept, filled}
+use Rattle.record_layout.specs.RecordRefusal.{headRefusal}
 use borrow.Author.Needs.{needs}
 use Rattle.uldrevin.proofs.record.uldrevin_record_field.Statement.{statement}
 use Rattle.uldrevin.proofs.record.uldrevin_record_field.Tie as tie

@@ -1,9 +1,9 @@
--- `uldrevin::record::uldrevin_record_head` meets its contract, which is that of `scan_record::read_head`. Assumes nothing.
+-- `uldrevin::record::uldrevin_record_head` meets its contract, which is that of `record_reader::read_head`. Assumes nothing.
 use mathlib.Core.Path.{ap, _∙_}
-use Rattle.placement.specs.Answer.{numberIn}
-use Rattle.placement.proofs.AnswerLaws.{number-in}
-use Rattle.uldrevin.specs.Structs.{headLeft}
-use Rattle.uldrevin.proofs.StructNumbers.{head-left}
+use Rattle.refusal.specs.Answer.{numberIn}
+use Rattle.refusal.proofs.AnswerLaws.{number-in}
+use Rattle.c_structs.specs.Structs.{headLeft}
+use Rattle.c_structs.proofs.StructNumbers.{head-left}
 use borrow.Author.Needs.{needs}
 use Rattle.uldrevin.proofs.record.uldrevin_record_head.Statement.{statement}
 use Rattle.uldrevin.proofs.record.uldrevin_record_head.Tie as tie

@@ -1,11 +1,11 @@
--- `uldrevin::record::uldrevin_record_read` meets its contract, which is that of `scan_record::read_scan`. Assumes nothing.
+-- `uldrevin::record::uldrevin_record_read` meets its contract, which is that of `record_reader::read_scan`. Assumes nothing.
 use mathlib.Core.Path.{_≡_, refl, ap, _∙_}
 use Prim.Native.Nat.{ℕ, zero, suc}
-use Rattle.placement.specs.Answer.{numberIn, afterwards}
-use Rattle.placement.proofs.AnswerLaws.{number-in}
-use Rattle.uldrevin.specs.Structs.{headLeft}
+use Rattle.refusal.specs.Answer.{numberIn, afterwards}
+use Rattle.refusal.proofs.AnswerLaws.{number-in}
+use Rattle.c_structs.specs.Structs.{headLeft}
 use Rattle.uldrevin.specs.LentNumbers.{ScanNumbers}
-use Rattle.uldrevin.proofs.StructNumbers.{head-left}
+use Rattle.c_structs.proofs.StructNumbers.{head-left}
 use borrow.Author.Needs.{needs}
 use Rattle.uldrevin.proofs.record.uldrevin_record_read.Statement.{statement}
 use Rattle.uldrevin.proofs.record.uldrevin_record_read.Tie as tie

@@ -1,8 +1,8 @@
--- `uldrevin::record::uldrevin_record_write` meets its contract, which is that of `scan_record::write_scan`. Assumes nothing.
+-- `uldrevin::record::uldrevin_record_write` meets its contract, which is that of `record_writer::write_scan`. Assumes nothing.
 use mathlib.Core.Path.{_≡_, refl, ap, _∙_}
 use Prim.Native.Nat.{ℕ, zero, suc}
-use Rattle.placement.specs.Answer.{numberIn, leftBy, afterwards}
-use Rattle.placement.proofs.AnswerLaws.{number-in, left-by}
+use Rattle.refusal.specs.Answer.{numberIn, leftBy, afterwards}
+use Rattle.refusal.proofs.AnswerLaws.{number-in, left-by}
 use Rattle.uldrevin.specs.LentNumbers.{WrittenNumbers}
 use borrow.Author.Needs.{needs}
 use Rattle.uldrevin.proofs.record.uldrevin_record_write.Statement.{statement}

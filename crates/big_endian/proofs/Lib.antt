@@ -1,0 +1,5 @@
+pub mod StandsAt
+pub mod BigEndianLaws
+pub mod ReadNumbers
+pub mod NumberInList
+pub mod StoredNumbers

@@ -1,0 +1,28 @@
+-- `big_endian::written::put_u32` meets its contract. Assumes nothing.
+use borrow.Author.Needs.{needs}
+use Rattle.big_endian.proofs.StoredNumbers.{four-stored}
+use Rattle.big_endian.proofs.written.put_u32.Statement.{statement}
+use Rattle.big_endian.proofs.written.put_u32.Tie as tie
+
+put-u16-requires : tie.Need-put-u16-requires
+put-u16-requires c κs = search needs
+
+add-put-u16 : tie.Need-add-put-u16
+add-put-u16 c = search needs
+
+put-u16-requires-2 : tie.Need-put-u16-requires-2
+put-u16-requires-2 c κs = search needs
+
+same-length : tie.Need-same-length
+same-length c = search needs
+
+returns : tie.Need-returns
+returns c =
+    let second = c .before .before in
+    let first = second .before .before .before .before in
+    let args = first .before .before .before .args in
+    four-stored (args .buffer .now) (args .at) (args .n) (first .put-u16 .ensures) (second .put-u162 .ensures)
+
+pub put-u32-spec : {M : Type 1} → statement M
+put-u32-spec =
+    tie.close (tie.spec put-u16-requires add-put-u16 put-u16-requires-2 same-length returns)

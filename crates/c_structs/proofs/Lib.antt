@@ -1,0 +1,2 @@
+pub mod StructNumbers
+pub mod StructLimits

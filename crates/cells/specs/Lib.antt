@@ -1,0 +1,5 @@
+pub mod Gates
+pub mod LentSums
+pub mod Tally
+pub mod Publish
+pub mod TallyRoom

@@ -1,0 +1,41 @@
+-- `ledger_text::ledger::put_outside` meets its contract. Assumes nothing.
+use native.Mathlib.Omega.{arith}
+use mir.Facts.{toZ-ofZ}
+use Rattle.ledger_text.specs.LedgerLine.{placementWords, outsideWord}
+use Rattle.text.proofs.StoredLaws.{line-last, line-before}
+use borrow.Author.Needs.{needs}
+use Rattle.ledger_text.proofs.ledger.put_outside.Statement.{statement}
+use Rattle.ledger_text.proofs.ledger.put_outside.Tie as tie
+
+put-integer-requires : tie.Need-put-integer-requires
+put-integer-requires c κs = search needs
+
+put-integer-requires-2 : tie.Need-put-integer-requires-2
+put-integer-requires-2 c κs = search needs
+
+slice-aggregate-put-text : tie.Need-slice-aggregate-put-text
+slice-aggregate-put-text c = search needs
+
+put-text-requires : tie.Need-put-text-requires
+put-text-requires c κs = search needs
+
+returns : tie.Need-returns
+unfolding placementWords outsideWord
+returns c =
+    let x = c .before .before .before .before .before .put-integer .ensures in
+    let y = c .before .before .before .put-integer2 .ensures in
+    let word = c .put-text .ensures in
+    let fits = c .before .before .before .before .before .before .before .fits in (
+      line-before _ _ _ (rw (toZ-ofZ (fits .x)) at (x .0)) (line-before _ _ _ (rw (toZ-ofZ (fits .y)) at (y .0)) (line-last _ word)),
+      omega (arith, x .1, y .1, word .the-end),
+    )
+
+pub put-outside-spec : {M : Type 1} → statement M
+put-outside-spec =
+    tie.close
+    (tie.spec
+    put-integer-requires
+    put-integer-requires-2
+    slice-aggregate-put-text
+    put-text-requires
+    returns)

@@ -1,0 +1,3 @@
+pub mod PlacedColumns
+pub mod LedgerHeading
+pub mod LedgerLine

@@ -1,0 +1,2 @@
+pub mod LayoutSteps
+pub mod AcceptedRecord

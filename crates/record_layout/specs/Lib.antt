@@ -1,0 +1,3 @@
+pub mod RecordPlaces
+pub mod RecordLists
+pub mod RecordRefusal

@@ -1,0 +1,2 @@
+pub mod RecordRead
+pub mod FieldPart

@@ -1,0 +1,4 @@
+pub mod ContentLengths
+pub mod WrittenBytes
+pub mod WriterAccepted
+pub mod AcceptedWriting

@@ -1,0 +1,4 @@
+pub mod RecordBytes
+pub mod RecordRoom
+pub mod RecordWritten
+pub mod WriteRefusal

@@ -1,0 +1,5 @@
+pub mod AnswerLaws
+pub mod UnsignedLaws
+pub mod Then
+pub mod RangeBounds
+pub mod CheckLaws

@@ -1,0 +1,7 @@
+// What a refusal is: checks in order, limits of a number, and what a call answers and leaves.
+mod range;
+mod unsigned;
+
+pub use range::in_range;
+pub use range::in_signed_range;
+pub use unsigned::unsigned32;

@@ -1,0 +1,2 @@
+pub mod AcceptedScan
+pub mod RayLaws

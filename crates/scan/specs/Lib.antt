@@ -1,0 +1,4 @@
+pub mod Rays
+pub mod LentLists
+pub mod Scan
+pub mod ScanRefusal

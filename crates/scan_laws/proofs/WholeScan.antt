@@ -1,0 +1,51 @@
+-- Document 01, "Ledger and cells" and demand 2: what holds of the lists that `remap` leaves of an accepted scan. Assumes nothing.
+use mathlib.Core.Path.{_≡_, ap, _∙_}
+use Prim.Native.Nat.{ℕ, _≤_, _<_}
+use native.Mathlib.Nat.{mul-le-mul}
+use native.Mathlib.Omega.{arith}
+use denote.Triple.Both.{Both}
+use lib.ListN.{length, getD}
+use Rattle.arithmetic.specs.Places.{sumTo}
+use Rattle.arithmetic.proofs.Places.{table-at}
+use Rattle.refusal.proofs.AnswerLaws.{given-is, filled-is}
+use Rattle.remap.specs.declared.remap_scan.Remapped.the-variants.{Done}
+use Rattle.cells.specs.Gates.{echoOf}
+use Rattle.scan.specs.LentLists.{Lists}
+use Rattle.scan_laws.specs.Placed.{placedOf}
+use Rattle.remap.specs.Remap.{filledLists, remapAnswer, Remaps}
+use Rattle.scan.specs.Scan.{Scan, cellsOf}
+use Rattle.scan.specs.ScanRefusal.{refusalFor}
+use Rattle.scan.proofs.AcceptedScan.{AcceptedScan, accepted-scan, window-size}
+use Rattle.cells.proofs.MeanBetween.{HasPart, cellMean, mean-between}
+use Rattle.scan_laws.proofs.PlacedTotal.{placed-total}
+
+cells-most : (scan : Scan) (lists : Lists) → AcceptedScan scan lists → cellsOf (scan .head) ≤ 4294967295
+unfolding cellsOf
+cells-most scan lists known =
+    let size = window-size (scan .head .grid) (known .grid) in
+    omega (arith, mul-le-mul (size .columns-most) (size .rows-most))
+
+mean-at : (scan : Scan) (cell : ℕ) → cell < cellsOf (scan .head) → getD (filledLists scan .cells .means) cell 0 ≡ cellMean (filledLists scan .ledger) (scan .values) (scan .qualities) (scan .head .weighting) cell
+unfolding filledLists
+mean-at scan cell h = table-at _ _ cell h
+
+module _ (scan : Scan) (lists : Both Lists Lists) (remapped : Remaps scan lists Done) where
+  not-refused : refusalFor scan (lists .entry) ≡ 0
+  unfolding remapAnswer
+  not-refused = given-is (refusalFor scan (lists .entry)) (remapped .the-answer) .0
+
+  left : lists .exit ≡ filledLists scan
+  left = filled-is (lists .entry) not-refused (remapped .the-lists)
+
+  -- the counts over the grid add up to the measured gates placed inside it
+  pub remapped-count-total : sumTo (λ cell. getD (lists .exit .sums .counts) cell 0) (length (lists .exit .sums .counts)) ≡ placedOf scan
+  remapped-count-total =
+      let known = accepted-scan scan (lists .entry) not-refused in
+      ap (λ (l : Lists). sumTo (λ cell. getD (l .sums .counts) cell 0) (length (l .sums .counts))) left
+      ∙ placed-total scan (known .lengths .azimuths-length) (cells-most scan (lists .entry) known)
+
+  -- a mean that is not 65,535 lies between the least and greatest contributing values, those with quality 0 left out by quality
+  pub remapped-mean-between : (cell : ℕ) → cell < cellsOf (scan .head) → let mean = getD (lists .exit .cells .means) cell 0 in (mean ≡ 65535 → ⊥) → (least greatest : ℕ) → ((k : ℕ) → HasPart (lists .exit .ledger) (scan .values) (scan .qualities) (scan .head .weighting) cell k → (least ≤ echoOf (getD (scan .values) k 0)) × (echoOf (getD (scan .values) k 0) ≤ greatest)) → (least ≤ mean) × (mean ≤ greatest)
+  remapped-mean-between cell h =
+      rw (left, mean-at scan cell h)
+      (λ ne least greatest bound. mean-between (filledLists scan .ledger) (scan .values) (scan .qualities) (scan .head .weighting) cell least greatest bound ne)

@@ -1,0 +1,4 @@
+pub mod SeriesAccuracy
+pub mod NestedSeries
+pub mod TableTest
+pub mod TableRule

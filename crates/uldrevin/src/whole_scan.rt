@@ -1,0 +1,52 @@
+// The whole scan. The answer is 0, with the lent lists written, or the refusal number, with all of them as they came in.
+use c_structs::head_of;
+use remap::Remapped;
+ghost use mathlib.Core.Path.{_≡_};
+ghost use Rattle.refusal.specs.Answer.{numberIn, Answers};
+ghost use Rattle.scan.specs.LentLists.{lentLists};
+ghost use Rattle.remap.specs.Remap.{remapAnswer, filledLists};
+ghost use Rattle.scan.specs.Scan.{scanHeld};
+ghost use Rattle.scan.specs.ScanRefusal.{refusalFor};
+ghost use Rattle.c_structs.specs.Structs.{headOf};
+
+#[no_mangle]
+pub extern "C" fn uldrevin_remap(
+    scan: &[i64; 13],
+    azimuths: &[u32],
+    values: &[u16],
+    qualities: &[u8],
+    ledger: &mut [u32],
+    counts: &mut [u32],
+    quality_sums: &mut [u32],
+    value_sums: &mut [u64],
+    means: &mut [u16],
+    cell_qualities: &mut [u8],
+) -> u32
+    ensures { λ r.
+        let given = scanHeld (headOf (now (scan .entry))) (azimuths .entry) (values .entry) (qualities .entry) in
+        let lists = lentLists ledger counts «quality_sums» «value_sums» means «cell_qualities» in
+        ⌜ Answers (refusalFor given (lists .entry)) (filledLists given) lists r ⌝ }
+{
+    let head = head_of(scan);
+    number_of(remap::remap(
+        head,
+        azimuths,
+        values,
+        qualities,
+        ledger,
+        counts,
+        quality_sums,
+        value_sums,
+        means,
+        cell_qualities,
+    ))
+}
+
+fn number_of(answer: Remapped) -> u32
+    ensures { λ r. ⌜ r ≡ numberIn (remapAnswer answer) ⌝ }
+{
+    match answer {
+        Remapped::Done => 0,
+        Remapped::Refused(number) => number,
+    }
+}

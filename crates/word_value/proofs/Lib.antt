@@ -1,0 +1,4 @@
+pub mod WordLaws
+pub mod ParsedCases
+pub mod ReadBack
+pub mod TextCases
