@@ -4,7 +4,7 @@ from pathlib import Path
 
 from second_program import sine
 
-SOURCE = Path(__file__).resolve().parent.parent / "crates" / "sine" / "src" / "tables.rt"
+SOURCE = Path(__file__).resolve().parent.parent / "crates" / "sine_tables" / "src" / "lib.rt"
 
 
 def source_table(name):

@@ -1,10 +1,9 @@
-// Whole numbers as they stand in bytes. The places lie in a record or just past it, far below the largest number of 64 bits.
+// Whole numbers as they stand in bytes. These functions are for our own crates: the places lie in a record or just past it, far below the
+// largest number of 64 bits.
 ghost use mathlib.Core.Path.{_≡_};
-ghost use Prim.Native.Nat.{_<_, _≤_, _+_, _^_};
+ghost use Prim.Native.Nat.{_<_, _≤_, _^_};
 ghost use lib.ListN.{getD};
 ghost use Rattle.big_endian.specs.BigEndian.{numberAt, signedOf, signedAt};
-
-// ---- as read
 
 // The byte at a place, 0 past the end.
 pub fn byte_at(bytes: &[u8], at: usize) -> u8

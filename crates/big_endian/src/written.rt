@@ -1,12 +1,10 @@
-// Whole numbers put into bytes.
+// Whole numbers put into bytes. These functions are for our own crates: they have made sure of room in the buffer.
 ghost use mathlib.Core.Path.{_≡_};
 ghost use Prim.Native.Nat.{_<_, _≤_, _+_};
 ghost use lib.IntN.{natAbs};
 ghost use lib.ListN.{length};
 ghost use lib.Seq.{sets};
 ghost use Rattle.big_endian.specs.BigEndian.{bytesOf, twosComplement, signedBytesOf};
-
-// ---- as written
 
 pub fn put_u8(buffer: &mut [u8], at: usize, n: u32)
     requires { ⌜ at + 1 ≤ length (now buffer) ⌝ }

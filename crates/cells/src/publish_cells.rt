@@ -7,7 +7,7 @@ ghost use Rattle.cells.specs.Publish.{divisorOf, publishedMean, publishe
 ghost use Rattle.cells.specs.LentSums.{sumsHeld, cellsHeld, lentCells};
 ghost use Rattle.cells.specs.TallyRoom.{Publishable};
 
-// Means and qualities of all cells, of any counts and sums.
+// Means and qualities of all cells, of any counts and sums. For our own crates: they have tested the lists' lengths.
 pub fn publish(
     weighting: Weighting,
     counts: &[u32],

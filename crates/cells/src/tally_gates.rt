@@ -6,7 +6,7 @@ ghost use Rattle.cells.specs.LentSums.{sumsHeld, lentSums};
 ghost use Rattle.cells.specs.Tally.{addedSums};
 ghost use Rattle.cells.specs.TallyRoom.{Addable};
 
-// Adds gates onto what the sums hold.
+// Adds gates onto what the sums hold. For our own crates: they have tested the lists' lengths, and that no sum passes its width.
 pub fn tally(
     weighting: Weighting,
     ledger: &[u32],

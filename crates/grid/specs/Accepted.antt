@@ -8,8 +8,6 @@ use Rattle.grid.specs.declared.kinds.Grid.the-variants.{Radolan, Hrap}
 use Rattle.grid.specs.declared.site.Site.{Site}
 use Rattle.refusal.specs.Checks.{inRange, inSignedRange}
 
--- ---- what is allowed
-
 unfoldable pub rangeAccepted : ℕ → Bool
 rangeAccepted range = leb range 46000000
 

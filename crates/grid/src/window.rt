@@ -42,7 +42,7 @@ pub fn window_of(grid: Grid) -> Window
     }
 }
 
-// The column or row of a coordinate: floor((x - corner) / side).
+// The column or row of a coordinate: floor((x - corner) / side). For our own crates: they have tested the grid, and a position is bounded.
 pub fn index_of(corner: i64, side: u64, x: i64) -> i64
     requires { ⌜ (0 < side) × Magnitude corner 10000000000 × Magnitude x 10000000000 ⌝ }
     ensures { λ r. ⌜ r ≡ indexOf corner side x ⌝ }
@@ -60,7 +60,7 @@ pub fn in_span(count: u32, index: i64) -> bool
     index < count as i64
 }
 
-// row x columns + column
+// row x columns + column. For our own crates: they have found both in the grid.
 pub fn cell_number(columns: u32, row: i64, column: i64) -> u32
     requires { ⌜ (columns ≤ 1500) × (inSpan 1500 row ≡ true) × (inSpan 1500 column ≡ true) ⌝ }
     ensures { λ r. ⌜ r ≡ cellNumber columns row column ⌝ }

@@ -10,7 +10,7 @@ ghost use Rattle.record_layout.specs.RecordPlaces.{headIn};
 ghost use Rattle.record_layout.specs.RecordRefusal.{headRefusal};
 
 // Seven fields in order end within 163,892 bytes. Of a longer input one byte more is read: by theorem `long-refusal`
-// (crates/scan_record/proofs/LongRecords.antt) the number of that part is the number of the whole input.
+// (crates/round_trips/proofs/LongRecords.antt) the number of that part is the number of the whole input.
 fn main() {
     let mut input = [0u8; 163893];
     let n = io::read_full(STDIN_FILENO, &mut input);

@@ -11,7 +11,7 @@ pub struct ArcTerms {
     pub cd: i64,
 }
 
-// None of the quotients is negative, so they are worked in u64 and converted once.
+// None of the quotients is negative, so they are worked in u64 and converted once. For our own crates: they have tested the range.
 pub fn arc_terms(radius: u64, range: u32) -> ArcTerms
     requires { ⌜ (637004000 ≤ radius) × (radius ≤ 637120000) × (range ≤ 46000000) ⌝ }
     ensures { λ r. ⌜ r ≡ arcTerms radius range ⌝ }

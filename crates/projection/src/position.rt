@@ -32,6 +32,7 @@ pub struct Position {
     pub y: i64,
 }
 
+// For our own crates: they have tested the site.
 pub fn site_terms(meridian: i64, site: Site) -> SiteTerms
     requires { ⌜ Magnitude meridian 1050000 × Magnitude (site .longitude) 1800000 ⌝ }
     ensures { λ r. ⌜ r ≡ siteTerms meridian site ⌝ }
@@ -56,6 +57,7 @@ pub fn ray_terms(azimuth: u32) -> RayTerms
     }
 }
 
+// For our own crates: the eight numbers are those of a site, an azimuth and a range that they have tested.
 pub fn position_of(s: SiteTerms, a: RayTerms, c: ArcTerms, k: i64) -> Position
     requires { ⌜ Sound s a c k ⌝ }
     ensures { λ r. ⌜ r ≡ positionBy s a c k ⌝ }

@@ -73,6 +73,7 @@ pub fn field_start(bytes: &[u8], k: usize) -> usize
     start
 }
 
+// For our own crates: they ask for one of the seven fields, or for the end.
 pub fn content_start(bytes: &[u8], k: usize) -> usize
     requires { ⌜ k ≤ 7 ⌝ }
     ensures { λ r. ⌜ r ≡ contentStart (now (bytes .entry)) k ⌝ }

@@ -1,7 +1,7 @@
 -- A field's part: empty, or what stands between the field's header and its end; and where it starts. Assumes nothing.
-use mathlib.Core.Bool.{true, false}
+use mathlib.Core.Bool.{Bool, true, false, _&&_, cond}
 use mathlib.Core.List.{List, [], _∷_}
-use mathlib.Core.Path.{_≡_, ap, ap₂, sym, _∙_}
+use mathlib.Core.Path.{_≡_, refl, ap, ap₂, sym, _∙_}
 use Prim.Native.Nat.{ℕ, suc, _+_, _-_, _<_, _≤_}
 use native.Mathlib.Omega.{arith}
 use borrow.Author.Tests.{le-leb, lt-leb, eq-eqb, ne-eqb}
@@ -10,7 +10,7 @@ use lib.Seq.{drop-cons}
 use Rattle.refusal.specs.Checks.{inRange}
 use Rattle.record_layout.specs.RecordPlaces.{contentLength, contentStart}
 use Rattle.record_layout.specs.RecordRefusal.{headRefusal}
-use Rattle.record_reader.specs.FieldPart.{part, hasPart, fieldPart, fieldPlace}
+use Rattle.record_reader.specs.FieldPart.{part, hasPart, fieldPart, fieldPlace, contentPlace}
 use Rattle.record_layout.proofs.AcceptedRecord.{accepted-record}
 
 -- ---- whether there is a part
@@ -60,6 +60,31 @@ unfolding part
 part-between bytes {start} {count} start′ count′ e f =
     let size : start + count - start ≡ count′ = omega (arith, f) in
     ap₂ (λ (n m : ℕ). take n (drop m bytes)) size e
+
+-- ---- where a field's content starts in any bytes
+
+pub content-below : (bytes : List ℕ) (number : ℕ) → number < 1 → 0 ≡ contentPlace bytes number
+unfolding contentPlace inRange
+content-below bytes number h = simp (lt-leb 1 number h)
+
+pub content-beyond : (bytes : List ℕ) (number : ℕ) → 1 ≤ number → 7 < number → 0 ≡ contentPlace bytes number
+unfolding contentPlace inRange
+content-beyond bytes number h i = simp (le-leb 1 number h, lt-leb number 7 i)
+
+pub content-given : (bytes : List ℕ) (number : ℕ) → 1 ≤ number → number ≤ 7 → contentStart bytes (number - 1) ≡ contentPlace bytes number
+unfolding contentPlace inRange
+content-given bytes number h i = simp (le-leb 1 number h, le-leb number 7 i)
+
+-- of a record that is not refused, that is where the part starts
+pub place-of-content : (bytes : List ℕ) (number : ℕ) → headRefusal bytes ≡ 0 → contentPlace bytes number ≡ fieldPlace bytes number
+unfolding contentPlace fieldPlace
+place-of-content bytes number e = rw (eq-eqb (headRefusal bytes) 0 e) (go (inRange 1 7 number))
+  where
+    go : (t : Bool) → _≡_ {A = ℕ} (cond t (contentStart bytes (number - 1)) 0) (cond (t && true) (contentStart bytes (number - 1)) 0)
+    go true = refl
+    go false = refl
+
+-- ---- why the place is told
 
 -- Bytes alone do not tell a part's place: the tag of field 1 may be the same byte as the content of field 4.
 pub tag-for-weighting : (bytes : List ℕ) → headRefusal bytes ≡ 0 → getD bytes (contentStart bytes 3) 0 ≡ getD bytes 0 0 → (1 ≤ length bytes) × (take 1 bytes ≡ fieldPart bytes 4)

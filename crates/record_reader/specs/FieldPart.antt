@@ -1,15 +1,12 @@
--- The part of a record that is a field's content. Assumes nothing.
+-- A field's content as a part of the record: a refused record or a field number other than 1 to 7 gives an empty part. Assumes nothing.
 use mathlib.Core.Bool.{Bool, _&&_, cond}
 use mathlib.Core.List.{List, []}
 use Prim.Native.Nat.{ℕ, _-_}
 use lib.Dec.{eqb}
 use lib.ListN.{take, drop}
-use Rattle.refusal.specs.Answer.{gives}
 use Rattle.refusal.specs.Checks.{inRange}
 use Rattle.record_layout.specs.RecordPlaces.{contentLength, contentStart}
 use Rattle.record_layout.specs.RecordRefusal.{headRefusal}
-
--- ---- a field's part: a refused record or a field number other than 1 to 7 gives an empty part
 
 -- `count` bytes from place `start` on
 unfoldable pub part : ℕ → ℕ → List ℕ → List ℕ
@@ -24,3 +21,7 @@ fieldPart bytes number = cond (hasPart bytes number) (part (contentStart bytes (
 -- how many bytes into the record the part starts, 0 for an empty part
 unfoldable pub fieldPlace : List ℕ → ℕ → ℕ
 fieldPlace bytes number = cond (hasPart bytes number) (contentStart bytes (number - 1)) 0
+
+-- where the field's content starts in any bytes, refused or not; 0 for a number other than 1 to 7
+unfoldable pub contentPlace : List ℕ → ℕ → ℕ
+contentPlace bytes number = cond (inRange 1 7 number) (contentStart bytes (number - 1)) 0

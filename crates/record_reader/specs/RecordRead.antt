@@ -11,8 +11,6 @@ use Rattle.record_layout.specs.RecordLists.{RecordLists}
 use Rattle.record_layout.specs.RecordPlaces.{headIn, azimuthsIn, valuesIn, qualitiesIn}
 use Rattle.record_layout.specs.RecordRefusal.{readRefusal}
 
--- ---- the reader
-
 -- what the lists hold once they are filled
 unfoldable pub listsIn : List ℕ → RecordLists
 listsIn bytes = record { azimuths = azimuthsIn bytes; values = valuesIn bytes; qualities = qualitiesIn bytes }

@@ -4,8 +4,7 @@ use record_layout::content_start;
 use record_layout::record_refusal;
 ghost use mathlib.Core.Path.{_≡_};
 ghost use Prim.Native.Nat.{_+_};
-ghost use Rattle.record_reader.specs.FieldPart.{fieldPart, fieldPlace};
-ghost use Rattle.record_layout.specs.RecordRefusal.{headRefusal};
+ghost use Rattle.record_reader.specs.FieldPart.{fieldPart, fieldPlace, contentPlace};
 
 // Any bytes and any number: a refused record or a number other than 1 to 7 gives an empty part.
 pub fn field(bytes: &[u8], number: usize) -> &[u8]
@@ -26,9 +25,9 @@ pub fn field(bytes: &[u8], number: usize) -> &[u8]
     &bytes[start..end]
 }
 
-// Where that part starts, for callers who know that the record is not refused.
+// Where the content of that field starts in any bytes; of a record that is not refused, that is where the part starts.
 pub fn field_place(bytes: &[u8], number: usize) -> usize
-    ensures { λ r. ⌜ (headRefusal (now (bytes .entry)) ≡ 0 → r ≡ fieldPlace (now (bytes .entry)) number) ⌝ }
+    ensures { λ r. ⌜ r ≡ contentPlace (now (bytes .entry)) number ⌝ }
 {
     if number < 1 {
         return 0;

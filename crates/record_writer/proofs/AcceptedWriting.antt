@@ -14,8 +14,6 @@ use Rattle.record_writer.specs.RecordBytes.{recordOf}
 use Rattle.record_writer.specs.WriteRefusal.{writeRefusal}
 use Rattle.refusal.proofs.Then.{then-none}
 
--- ---- a scan that the writer does not refuse
-
 pub record AcceptedWriting (scan : Scan) (room : ℕ) : Type 0 where
   pub none : scanRefusal scan (givenExact scan) ≡ 0
   pub numbers : AcceptedNumbers (scan .head) (givenExact scan) (allOf azimuthAccepted (scan .azimuths)) (allOf qualityAccepted (scan .qualities))

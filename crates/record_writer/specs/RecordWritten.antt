@@ -1,7 +1,7 @@
--- What the writer answers and leaves in the buffer. Assumes nothing.
+-- What the writer answers and leaves: it answers the record's length and touches nothing past its end. Assumes nothing.
 use mathlib.Core.List.{List, _++_}
 use mathlib.Core.Path.{_≡_}
-use Prim.Native.Nat.{ℕ, _-_}
+use Prim.Native.Nat.{ℕ}
 use denote.Triple.Both.{Both}
 use lib.ListN.{length, drop}
 use Rattle.refusal.specs.Answer.{Answer, gives, refuses, answered, afterwards}
@@ -10,8 +10,6 @@ use Rattle.record_writer.specs.declared.writer.WrittenScan.{WrittenScan}
 use Rattle.record_writer.specs.declared.writer.WrittenScan.the-variants as written
 use Rattle.record_writer.specs.RecordBytes.{recordOf}
 use Rattle.record_writer.specs.WriteRefusal.{writeRefusal}
-
--- ---- the writer: it answers the record's length and touches nothing past its end
 
 -- document 01's number and value for each case of the answer
 unfoldable pub writtenAnswer : WrittenScan → Answer ℕ

@@ -10,8 +10,6 @@ use Rattle.arithmetic.proofs.Test.{and-true}
 use Rattle.arithmetic.proofs.Magnitude.{magnitude-pos}
 use Rattle.refusal.specs.Checks.{inRange, inSignedRange}
 
--- ---- one test
-
 pub range-bounds : (least most x : ℕ) → inRange least most x ≡ true → (least ≤ x) × (x ≤ most)
 unfolding inRange
 range-bounds least most x e =

@@ -15,6 +15,11 @@ ghost use Rattle.remap.specs.Remap.{filledLists, Remaps};
 ghost use Rattle.scan.specs.Scan.{scanHeld};
 ghost use Rattle.scan.specs.ScanRefusal.{refusalFor};
 
+pub enum Remapped {
+    Done,
+    Refused(u32),
+}
+
 // Takes any scan whatever. A refusal gives its number only and leaves every lent list as it came in.
 pub fn remap(
     head: ScanHead,
@@ -115,9 +120,4 @@ fn accepted_remap(
         means,
         cell_qualities,
     );
-}
-
-pub enum Remapped {
-    Done,
-    Refused(u32),
 }

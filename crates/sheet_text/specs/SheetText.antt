@@ -13,8 +13,6 @@ use Rattle.record_layout.specs.RecordRefusal.{headRefusal}
 use Rattle.text.specs.RefusedLine.{refusedLine}
 use Rattle.sheet_lines.specs.SheetLines.{tooLarge, sheetLines}
 
--- ---- of a record
-
 -- a refusal prints `refused` and the number, and there is no sheet
 unfoldable pub refusedOr : ℕ → List ℕ → List ℕ
 refusedOr zero sheet = sheet

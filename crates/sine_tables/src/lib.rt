@@ -13,7 +13,7 @@ pub fn coarse_sines() -> [u32; 901]
     S
 }
 
-// F[b], the sine of b angle units.
+// F[b], the sine of b angle units. For our own crate `sine`: b is a remainder by 1,000.
 pub fn fine_sine(b: usize) -> u32
     requires { ⌜ b < 1000 ⌝ }
     ensures { λ r. ⌜ pos r ≡ Tables·F b ⌝ }
@@ -22,7 +22,7 @@ pub fn fine_sine(b: usize) -> u32
     table[b]
 }
 
-// G[b], the cosine of b angle units.
+// G[b], the cosine of b angle units. For our own crate `sine`: b is a remainder by 1,000.
 pub fn fine_cosine(b: usize) -> u32
     requires { ⌜ b < 1000 ⌝ }
     ensures { λ r. ⌜ pos r ≡ Tables·G b ⌝ }

@@ -4,6 +4,7 @@ use lib.ListN.{length}
 use Rattle.refusal.specs.Answer.{numberIn}
 use Rattle.refusal.proofs.AnswerLaws.{number-in, kept, filled}
 use Rattle.record_layout.specs.RecordRefusal.{headRefusal}
+use Rattle.record_reader.proofs.FieldParts.{place-of-content}
 use borrow.Author.Needs.{needs}
 use Rattle.uldrevin.proofs.record.uldrevin_record_field.Statement.{statement}
 use Rattle.uldrevin.proofs.record.uldrevin_record_field.Tie as tie
@@ -35,7 +36,7 @@ field-requires c κs = search needs
 returns-2 : tie.Need-returns-2
 returns-2 c = let zero = accepted (c .before .before) in record {
   the-number = sym zero;
-  the-lent = filled _ zero (λ i. record { start = c .before .field-place .ensures zero i; size = ap length (c .field .ensures .0) i });
+  the-lent = filled _ zero (λ i. record { start = (c .before .field-place .ensures ∙ place-of-content _ _ zero) i; size = ap length (c .field .ensures .0) i });
 }
 
 pub uldrevin-record-field-spec : {M : Type 1} → statement M
