@@ -9,10 +9,10 @@ use borrow.Author.Tests.{le-leb}
 use lib.Dec.{leb}
 use lib.IntN.{ℤ, pos, negsuc}
 use lib.ListN.{getD}
-use Rattle.grid.specs.declared.kinds.Grid.{Grid}
-use Rattle.grid.specs.declared.kinds.Grid.the-variants.{Radolan, Hrap}
+use Rattle.limits.specs.declared.grid.Grid.{Grid}
+use Rattle.limits.specs.declared.grid.Grid.the-variants.{Radolan, Hrap}
 use Rattle.refusal.specs.Checks.{inRange, inSignedRange}
-use Rattle.grid.specs.Accepted.{rangeAccepted, azimuthAccepted, sizeAccepted, gridAccepted}
+use Rattle.limits.specs.Accepted.{rangeAccepted, azimuthAccepted, sizeAccepted, gridAccepted}
 use Rattle.refusal.specs.Unsigned.{unsigned32}
 use Rattle.refusal.proofs.UnsignedLaws.{same-limits}
 use Rattle.c_structs.specs.declared.GridNumbers.{GridNumbers}

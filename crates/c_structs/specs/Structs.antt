@@ -5,15 +5,15 @@ use Prim.Native.Nat.{ℕ, _+_}
 use lib.Dec.{eqb}
 use lib.IntN.{ℤ, pos, negsuc}
 use lib.ListN.{getD}
-use Rattle.grid.specs.declared.kinds.Grid.{Grid}
-use Rattle.grid.specs.declared.kinds.Grid.the-variants.{Radolan, Hrap}
-use Rattle.grid.specs.declared.site.Site.{Site}
+use Rattle.limits.specs.declared.grid.Grid.{Grid}
+use Rattle.limits.specs.declared.grid.Grid.the-variants.{Radolan, Hrap}
+use Rattle.limits.specs.declared.site.Site.{Site}
 use Rattle.refusal.specs.Answer.{Answer, gives, refuses}
 use Rattle.refusal.specs.Unsigned.{unsigned32}
-use Rattle.cells.specs.declared.gates.Weighting.{Weighting}
-use Rattle.cells.specs.declared.gates.Weighting.the-variants.{Plain, ByQuality}
+use Rattle.tally.specs.declared.gates.Weighting.{Weighting}
+use Rattle.tally.specs.declared.gates.Weighting.the-variants.{Plain, ByQuality}
 use Rattle.scan.specs.declared.head.ScanHead.{ScanHead}
-use Rattle.record_writer.specs.RecordBytes.{weightingByte}
+use Rattle.record_contents.specs.RecordBytes.{weightingByte}
 use Rattle.c_structs.specs.declared.GridNumbers.{GridNumbers}
 
 -- the integer is this number

@@ -1,13 +1,13 @@
 // Site, grid and scan head from the structs of signed numbers in which they cross from C, and back.
-use cells::Weighting;
-use grid::Grid;
-use grid::HrapGrid;
-use grid::RadolanGrid;
-use grid::Site;
+use limits::Grid;
+use limits::HrapGrid;
+use limits::RadolanGrid;
+use limits::Site;
 use refusal::unsigned32;
 use scan::ScanHead;
+use tally::Weighting;
 ghost use mathlib.Core.Path.{_≡_};
-ghost use Rattle.record_writer.specs.RecordBytes.{weightingByte};
+ghost use Rattle.record_contents.specs.RecordBytes.{weightingByte};
 ghost use Rattle.c_structs.specs.Structs.{gridOf, weightingOf, headOf, gridNumbers, headNumbers};
 
 // The numbers of a grid of either kind: 1 RADOLAN; 2 HRAP, where x and y are I and J.

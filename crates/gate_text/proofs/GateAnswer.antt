@@ -6,8 +6,8 @@ use Prim.Native.Nat.{ℕ, _-_}
 use borrow.Author.Tests.{eq-eqb, ne-eqb}
 use lib.ListN.{length}
 use Rattle.placement.specs.declared.gate.Placement.{Placement}
-use Rattle.grid.specs.declared.kinds.Grid.{Grid}
-use Rattle.grid.specs.declared.site.Site.{Site}
+use Rattle.limits.specs.declared.grid.Grid.{Grid}
+use Rattle.limits.specs.declared.site.Site.{Site}
 use Rattle.placement.specs.Gate.{placementOf}
 use Rattle.grid.specs.Window.{windowOf}
 use Rattle.text.specs.DecimalText.{lineOf}

@@ -2,10 +2,10 @@
 use crate::words::same_word;
 use crate::words::word;
 use crate::words::word_start;
-use grid::Grid;
-use grid::HrapGrid;
-use grid::RadolanGrid;
-use grid::Site;
+use limits::Grid;
+use limits::HrapGrid;
+use limits::RadolanGrid;
+use limits::Site;
 use word_value::Parsed;
 ghost use mathlib.Core.Path.{_≡_};
 ghost use Prim.Native.Nat.{_≤_, _+_};

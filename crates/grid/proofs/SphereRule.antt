@@ -2,8 +2,8 @@
 use lib.Dec.{lit<}
 use Rattle.arithmetic.specs.Nearness.{Nearest, gap}
 use Rattle.arithmetic.proofs.Nearest.{nearest-rule}
-use Rattle.grid.specs.declared.kinds.Grid.{Grid}
-use Rattle.grid.specs.declared.kinds.Grid.the-variants.{Radolan, Hrap}
+use Rattle.limits.specs.declared.grid.Grid.{Grid}
+use Rattle.limits.specs.declared.grid.Grid.the-variants.{Radolan, Hrap}
 use Rattle.grid.specs.Sphere.{exactK, radolanSphere, hrapSphere, sphereOf}
 
 pub k-nearest : (grid : Grid) → Nearest 1 (exactK (sphereOf grid .radius)) (sphereOf grid .k)

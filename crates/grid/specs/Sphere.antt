@@ -2,8 +2,8 @@
 use Prim.Native.Nat.{ℕ, _*_, _^_}
 use lib.IntN.{pos, negsuc}
 use Rattle.arithmetic.specs.Fraction.{Fraction}
-use Rattle.grid.specs.declared.kinds.Grid.{Grid}
-use Rattle.grid.specs.declared.kinds.Grid.the-variants.{Radolan, Hrap}
+use Rattle.limits.specs.declared.grid.Grid.{Grid}
+use Rattle.limits.specs.declared.grid.Grid.the-variants.{Radolan, Hrap}
 use Rattle.grid.specs.declared.sphere.Sphere.{Sphere}
 
 unfoldable pub radolanSphere : Sphere

@@ -4,8 +4,8 @@ use Prim.Native.Nat.{ℕ, _+_, _*_}
 use lib.IntN.{ℤ, pos, _-ℤ_, _*ℤ_, natAbs}
 use lib.Signed.{leZ, ltZ}
 use Rattle.arithmetic.specs.Floor.{_÷_}
-use Rattle.grid.specs.declared.kinds.Grid.{Grid}
-use Rattle.grid.specs.declared.kinds.Grid.the-variants.{Radolan, Hrap}
+use Rattle.limits.specs.declared.grid.Grid.{Grid}
+use Rattle.limits.specs.declared.grid.Grid.the-variants.{Radolan, Hrap}
 use Rattle.grid.specs.declared.window.Window.{Window}
 
 -- RADOLAN carries its corner and side; HRAP: side 476,250, corner at ((I - 401) x 476,250, (J - 1601) x 476,250)

@@ -1,18 +1,7 @@
-// Site and grid: what is accepted of them, the sphere, and the cells that a grid spans.
-mod kinds;
-mod limits;
-mod site;
+// The sphere of a kind of grid, and the cells that a grid spans.
 mod sphere;
 mod window;
 
-pub use kinds::Grid;
-pub use kinds::HrapGrid;
-pub use kinds::RadolanGrid;
-pub use limits::azimuth_accepted;
-pub use limits::grid_accepted;
-pub use limits::range_accepted;
-pub use limits::site_accepted;
-pub use site::Site;
 pub use sphere::Sphere;
 pub use sphere::sphere_of;
 pub use window::Window;

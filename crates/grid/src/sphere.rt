@@ -1,5 +1,5 @@
 // The sphere of a kind of grid.
-use crate::kinds::Grid;
+use limits::Grid;
 ghost use mathlib.Core.Path.{_≡_};
 ghost use Rattle.grid.specs.Sphere.{sphereOf};
 

@@ -1,12 +1,12 @@
 // The cells that a grid spans.
-use crate::kinds::Grid;
 use arithmetic::floor_div;
+use limits::Grid;
 ghost use mathlib.Core.Path.{_≡_};
 ghost use mathlib.Core.Bool.{true};
 ghost use Prim.Native.Nat.{_<_, _≤_};
 ghost use Rattle.arithmetic.specs.Magnitude.{Magnitude};
 ghost use Rattle.grid.specs.Window.{windowOf, indexOf, inSpan, cellNumber};
-ghost use Rattle.grid.specs.Accepted.{gridAccepted};
+ghost use Rattle.limits.specs.Accepted.{gridAccepted};
 
 // The cells of a grid of either kind.
 pub struct Window {

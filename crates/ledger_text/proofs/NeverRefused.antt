@@ -7,13 +7,13 @@ use native.Mathlib.Nat.{mod-lt}
 use native.Mathlib.Omega.{arith}
 use Rattle.arithmetic.proofs.Places.{all-at}
 use Rattle.placement.specs.declared.gate.Placement.the-variants.{Inside, Outside, Refused}
-use Rattle.grid.specs.declared.kinds.Grid.{Grid}
+use Rattle.limits.specs.declared.grid.Grid.{Grid}
 use Rattle.grid.specs.declared.window.Window.{Window}
 use Rattle.projection.specs.declared.position.Position.{Position}
-use Rattle.grid.specs.declared.site.Site.{Site}
+use Rattle.limits.specs.declared.site.Site.{Site}
 use Rattle.placement.specs.Gate.{unlessRefused, placementOf}
 use Rattle.projection.specs.Position.{positionOf}
-use Rattle.grid.specs.Accepted.{azimuthAccepted}
+use Rattle.limits.specs.Accepted.{azimuthAccepted}
 use Rattle.placement.specs.GateRefusal.{gateRefusal}
 use Rattle.grid.specs.Sphere.{sphereOf}
 use Rattle.grid.specs.Window.{windowOf}

@@ -5,13 +5,13 @@ use Prim.Native.Nat.{ℕ, zero, suc, _≤_}
 use native.Mathlib.Omega.{arith}
 use borrow.Author.Tests.{le-leb}
 use Rattle.placement.specs.declared.gate.Placement.the-variants.{Inside, Outside}
-use Rattle.grid.specs.declared.kinds.Grid.{Grid}
+use Rattle.limits.specs.declared.grid.Grid.{Grid}
 use Rattle.grid.specs.declared.window.Window.{Window}
 use Rattle.projection.specs.declared.position.Position.{Position}
-use Rattle.grid.specs.declared.site.Site.{Site}
+use Rattle.limits.specs.declared.site.Site.{Site}
 use Rattle.placement.specs.Gate.{unlessRefused, placementOf}
 use Rattle.projection.specs.Position.{positionOf}
-use Rattle.grid.specs.Accepted.{rangeAccepted, azimuthAccepted, siteAccepted, gridAccepted}
+use Rattle.limits.specs.Accepted.{rangeAccepted, azimuthAccepted, siteAccepted, gridAccepted}
 use Rattle.refusal.specs.Checks.{firstRefusal}
 use Rattle.placement.specs.GateRefusal.{gateRefusal}
 use Rattle.grid.specs.Sphere.{sphereOf}

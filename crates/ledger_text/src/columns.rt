@@ -1,5 +1,5 @@
 // The columns of a grid of either kind.
-use grid::Grid;
+use limits::Grid;
 ghost use mathlib.Core.Path.{_≡_};
 ghost use Rattle.grid.specs.Window.{windowOf};
 

@@ -12,14 +12,14 @@ use Rattle.arithmetic.specs.Nearness.{nearest}
 use Rattle.arithmetic.proofs.Floor.{floor-only}
 use Rattle.arithmetic.proofs.Integer.{as-difference, same-difference, differences}
 use Rattle.sine.specs.Quarters.{byQuarters, inTurn, inQuarter}
-use Rattle.sine_tables.specs.Series.{arc, arcUnit, factorial, term, alternating, sineSeries, cosineSeries}
+use Rattle.sine_series.specs.Series.{arc, arcUnit, factorial, term, alternating, sineSeries, cosineSeries}
 use Rattle.sine.specs.Sine.{quarterSine, sineOf}
-use Rattle.sine_tables.specs.Tables.{Q, S, F, G}
+use Rattle.sine_series.specs.Tables.{Q, S, F, G}
 use Rattle.projection.specs.declared.arc.ArcTerms.{ArcTerms}
-use Rattle.grid.specs.declared.kinds.Grid.{Grid}
-use Rattle.grid.specs.declared.kinds.Grid.the-variants.{Radolan, Hrap}
+use Rattle.limits.specs.declared.grid.Grid.{Grid}
+use Rattle.limits.specs.declared.grid.Grid.the-variants.{Radolan, Hrap}
 use Rattle.projection.specs.declared.position.RayTerms.{RayTerms}
-use Rattle.grid.specs.declared.site.Site.{Site}
+use Rattle.limits.specs.declared.site.Site.{Site}
 use Rattle.projection.specs.declared.position.SiteTerms.{SiteTerms}
 use Rattle.projection.specs.Arc.{d, d2, d3, d4, d5, sd, arcTerms}
 use Rattle.placement.specs.GateCases.{xIsZero, meshColumnOfZero, exampleGrid, anyRadolan, GateHolds, columnAt}

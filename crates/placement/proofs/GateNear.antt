@@ -2,9 +2,9 @@
 use mathlib.Core.Bool.{Bool, true, false, cond}
 use Prim.Native.Nat.{ℕ, _*_, _≤_}
 use Rattle.placement.specs.declared.gate.Placement.the-variants.{Inside, Outside}
-use Rattle.grid.specs.declared.kinds.Grid.{Grid}
+use Rattle.limits.specs.declared.grid.Grid.{Grid}
 use Rattle.projection.specs.declared.position.Position.{Position}
-use Rattle.grid.specs.declared.site.Site.{Site}
+use Rattle.limits.specs.declared.site.Site.{Site}
 use Rattle.projection.specs.Nearness.{positionError, WithinExact}
 use Rattle.placement.specs.GateNearness.{PositionWithin}
 use Rattle.projection.specs.Position.{positionOf, positionBy}

@@ -4,10 +4,10 @@ use mathlib.Core.Path.{_≡_, refl, ap, _∙_}
 use Prim.Native.Nat.{ℕ, zero, suc}
 use Rattle.placement.specs.declared.gate.Placement.{Placement}
 use Rattle.placement.specs.declared.gate.Placement.the-variants.{Inside, Outside}
-use Rattle.grid.specs.declared.kinds.Grid.{Grid}
+use Rattle.limits.specs.declared.grid.Grid.{Grid}
 use Rattle.grid.specs.declared.window.Window.{Window}
 use Rattle.projection.specs.declared.position.Position.{Position}
-use Rattle.grid.specs.declared.site.Site.{Site}
+use Rattle.limits.specs.declared.site.Site.{Site}
 use Rattle.refusal.specs.Answer.{gives, answered}
 use Rattle.placement.specs.Gate.{unlessRefused, placementOf, entryOf, placementAnswer, placedGate}
 use Rattle.projection.specs.Position.{positionOf}

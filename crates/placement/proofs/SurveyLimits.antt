@@ -5,20 +5,20 @@ use Prim.Native.Nat.{ℕ, _≤_}
 use native.Mathlib.Omega.{arith}
 use lib.Dec.{lit≤}
 use Rattle.arithmetic.proofs.Magnitude.{magnitude-weaken}
-use Rattle.grid.specs.declared.kinds.Grid.{Grid}
-use Rattle.grid.specs.declared.kinds.Grid.the-variants.{Radolan, Hrap}
+use Rattle.limits.specs.declared.grid.Grid.{Grid}
+use Rattle.limits.specs.declared.grid.Grid.the-variants.{Radolan, Hrap}
 use Rattle.projection.specs.declared.position.RayTerms.{RayTerms}
-use Rattle.grid.specs.declared.site.Site.{Site}
+use Rattle.limits.specs.declared.site.Site.{Site}
 use Rattle.placement.specs.declared.survey.Survey.{Survey}
 use Rattle.projection.specs.Arc.{arcTerms}
 use Rattle.projection.specs.Position.{positionBy}
-use Rattle.grid.specs.Accepted.{siteAccepted, gridAccepted}
+use Rattle.limits.specs.Accepted.{siteAccepted, gridAccepted}
 use Rattle.grid.specs.Sphere.{sphereOf}
 use Rattle.placement.specs.Survey.{surveyOf, Surveyed}
 use Rattle.projection.specs.Terms.{RayLimits, Sound}
 use Rattle.placement.specs.CellRoom.{WindowLimits, Reachable}
 use Rattle.grid.specs.Window.{windowOf}
-use Rattle.grid.proofs.Accepted.{accepted-site, accepted-radolan, accepted-hrap, hrap-corner}
+use Rattle.limits.proofs.Accepted.{accepted-site, accepted-radolan, accepted-hrap, hrap-corner}
 use Rattle.projection.proofs.GateTerms.{good-sphere, site-limits, sound-of}
 use Rattle.projection.proofs.PositionBounds.{X-limit, Y-limit}
 

@@ -3,8 +3,8 @@ use Prim.Native.Nat.{ℕ, zero, suc}
 use lib.IntN.{ℤ}
 use Rattle.placement.specs.declared.gate.Placement.{Placement}
 use Rattle.placement.specs.declared.gate.Placement.the-variants.{Inside, Outside, Refused}
-use Rattle.grid.specs.declared.kinds.Grid.{Grid}
-use Rattle.grid.specs.declared.site.Site.{Site}
+use Rattle.limits.specs.declared.grid.Grid.{Grid}
+use Rattle.limits.specs.declared.site.Site.{Site}
 use Rattle.refusal.specs.Answer.{Answer, gives, refuses}
 use Rattle.grid.specs.Sphere.{sphereOf}
 use Rattle.projection.specs.Position.{positionOf}

@@ -3,10 +3,10 @@
 use mathlib.Core.Path.{_≡_}
 use Prim.Native.Nat.{ℕ, _<_}
 use lib.IntN.{ℤ, pos, negsuc, _+ℤ_}
-use Rattle.grid.specs.declared.kinds.Grid.{Grid}
-use Rattle.grid.specs.declared.kinds.Grid.the-variants.{Radolan, Hrap}
-use Rattle.grid.specs.declared.kinds.HrapGrid.{HrapGrid}
-use Rattle.grid.specs.declared.site.Site.{Site}
+use Rattle.limits.specs.declared.grid.Grid.{Grid}
+use Rattle.limits.specs.declared.grid.Grid.the-variants.{Radolan, Hrap}
+use Rattle.limits.specs.declared.grid.HrapGrid.{HrapGrid}
+use Rattle.limits.specs.declared.site.Site.{Site}
 use Rattle.projection.specs.Position.{positionOf}
 use Rattle.placement.specs.GateRefusal.{gateRefusal}
 use Rattle.grid.specs.Sphere.{sphereOf}

@@ -2,8 +2,8 @@
 use Prim.Native.Nat.{ℕ}
 use Rattle.placement.specs.declared.gate.Placement.{Placement}
 use Rattle.placement.specs.declared.gate.Placement.the-variants.{Inside, Outside, Refused}
-use Rattle.grid.specs.declared.kinds.Grid.{Grid}
-use Rattle.grid.specs.declared.site.Site.{Site}
+use Rattle.limits.specs.declared.grid.Grid.{Grid}
+use Rattle.limits.specs.declared.site.Site.{Site}
 use Rattle.projection.specs.Nearness.{WithinExact}
 
 -- whenever the answer is a position, it lies within so many centimetres of the exact one

@@ -1,9 +1,9 @@
 -- Document 01, "Refusal numbers": the order of a single gate's checks. Assumes nothing.
 use mathlib.Core.List.{[], _∷_}
 use Prim.Native.Nat.{ℕ}
-use Rattle.grid.specs.declared.kinds.Grid.{Grid}
-use Rattle.grid.specs.declared.site.Site.{Site}
-use Rattle.grid.specs.Accepted.{rangeAccepted, azimuthAccepted, siteAccepted, gridAccepted}
+use Rattle.limits.specs.declared.grid.Grid.{Grid}
+use Rattle.limits.specs.declared.site.Site.{Site}
+use Rattle.limits.specs.Accepted.{rangeAccepted, azimuthAccepted, siteAccepted, gridAccepted}
 use Rattle.refusal.specs.Checks.{_unless_, firstRefusal}
 
 -- one gate is checked by 3, 4, 5, 7

@@ -5,9 +5,9 @@ use lib.ListN.{length}
 use Rattle.arithmetic.specs.Places.{table}
 use Rattle.arithmetic.specs.Magnitude.{Magnitude}
 use Rattle.placement.specs.declared.gate.Placement.{Placement}
-use Rattle.grid.specs.declared.kinds.Grid.{Grid}
+use Rattle.limits.specs.declared.grid.Grid.{Grid}
 use Rattle.projection.specs.declared.position.RayTerms.{RayTerms}
-use Rattle.grid.specs.declared.site.Site.{Site}
+use Rattle.limits.specs.declared.site.Site.{Site}
 use Rattle.placement.specs.declared.survey.Survey.{Survey}
 use Rattle.projection.specs.Arc.{arcTerms}
 use Rattle.placement.specs.Gate.{entryOf}

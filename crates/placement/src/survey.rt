@@ -1,15 +1,15 @@
 // What a site and a grid give once for all of their gates.
-use grid::Grid;
-use grid::Site;
 use grid::Sphere;
 use grid::Window;
 use grid::sphere_of;
 use grid::window_of;
+use limits::Grid;
+use limits::Site;
 use projection::SiteTerms;
 use projection::site_terms;
 ghost use mathlib.Core.Path.{_≡_};
 ghost use mathlib.Core.Bool.{true};
-ghost use Rattle.grid.specs.Accepted.{siteAccepted, gridAccepted};
+ghost use Rattle.limits.specs.Accepted.{siteAccepted, gridAccepted};
 ghost use Rattle.placement.specs.Survey.{surveyOf};
 
 pub struct Survey {

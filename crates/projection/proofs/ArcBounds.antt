@@ -8,7 +8,7 @@ use lib.Signed.{_≤ℤ_}
 use Rattle.arithmetic.specs.Magnitude.{Magnitude}
 use Rattle.arithmetic.proofs.Integer.{difference-pos, differences, same-difference}
 use Rattle.arithmetic.proofs.Order.{pos-≤ℤ}
-use Rattle.sine_tables.specs.Tables.{Q}
+use Rattle.sine_series.specs.Tables.{Q}
 use Rattle.projection.specs.Arc.{d, d2, d3, d4, d5, sd, cd}
 use Rattle.projection.specs.Terms.{arcSineLimit, leastArcCosine, arcCosineLimit}
 

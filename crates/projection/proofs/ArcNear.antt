@@ -8,7 +8,7 @@ use lib.Dec.{lit<, lit≤}
 use lib.IntN.{pos}
 use Rattle.arithmetic.specs.Nearness.{Near}
 use Rattle.arithmetic.proofs.Nearness.{near-whole, near-sum, near-opposite, near-product, near-part, near-floor, near-weaken}
-use Rattle.sine_tables.specs.Tables.{Q}
+use Rattle.sine_series.specs.Tables.{Q}
 use Rattle.projection.specs.Arc.{d, d2, d3, d4, d5, sd, cd}
 use Rattle.projection.specs.ExactArc.{d*, d2*, d3*, d4*, d5*, sd*, cd*}
 

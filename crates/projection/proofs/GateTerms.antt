@@ -12,17 +12,17 @@ use Rattle.sine.specs.Bounds.{leastLatitudeSine}
 use Rattle.sine.specs.Sine.{sineOf}
 use Rattle.sine.proofs.SineBounds.{sine-magnitude, cosine-magnitude, sine-of-latitude}
 use Rattle.grid.specs.declared.sphere.Sphere.{Sphere}
-use Rattle.grid.specs.declared.kinds.Grid.{Grid}
-use Rattle.grid.specs.declared.kinds.Grid.the-variants.{Radolan, Hrap}
+use Rattle.limits.specs.declared.grid.Grid.{Grid}
+use Rattle.limits.specs.declared.grid.Grid.the-variants.{Radolan, Hrap}
 use Rattle.projection.specs.declared.position.RayTerms.{RayTerms}
-use Rattle.grid.specs.declared.site.Site.{Site}
+use Rattle.limits.specs.declared.site.Site.{Site}
 use Rattle.projection.specs.declared.position.SiteTerms.{SiteTerms}
 use Rattle.projection.specs.Arc.{arcTerms}
 use Rattle.projection.specs.Position.{siteTerms, rayTerms}
-use Rattle.grid.specs.Accepted.{rangeAccepted, siteAccepted}
+use Rattle.limits.specs.Accepted.{rangeAccepted, siteAccepted}
 use Rattle.grid.specs.Sphere.{exactK, radolanSphere, hrapSphere, sphereOf}
 use Rattle.projection.specs.Terms.{SiteLimits, RayLimits, Sound, kLimit}
-use Rattle.grid.proofs.Accepted.{accepted-range, accepted-site}
+use Rattle.limits.proofs.Accepted.{accepted-range, accepted-site}
 use Rattle.projection.proofs.ArcBounds.{sd-limit, cd-limit, cd-least}
 
 -- what is known of both spheres

@@ -10,7 +10,7 @@ use lib.Signed.{_≤ℤ_}
 use Rattle.arithmetic.specs.Magnitude.{Magnitude}
 use Rattle.arithmetic.proofs.Magnitude.{magnitude-sum, magnitude-difference, magnitude-product, magnitude-floor, magnitude-negation, natAbs-sum}
 use Rattle.arithmetic.proofs.Order.{at-least, at-least-sum, at-least-less, at-least-product, at-least-floor, pos-≤ℤ}
-use Rattle.sine_tables.specs.Tables.{Q}
+use Rattle.sine_series.specs.Tables.{Q}
 use Rattle.projection.specs.declared.arc.ArcTerms.{ArcTerms}
 use Rattle.projection.specs.declared.position.RayTerms.{RayTerms}
 use Rattle.projection.specs.declared.position.SiteTerms.{SiteTerms}

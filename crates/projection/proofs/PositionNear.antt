@@ -11,12 +11,12 @@ use Rattle.arithmetic.specs.Nearness.{Near, gap}
 use Rattle.arithmetic.proofs.Integer.{as-difference, same-difference, differences}
 use Rattle.arithmetic.proofs.Nearness.{near-whole, near-sum, near-opposite, near-product, near-floor, near-weaken}
 use Rattle.arithmetic.proofs.Quotient.{near-quotient, divisor-fraction-positive}
-use Rattle.sine_tables.specs.Tables.{Q}
+use Rattle.sine_series.specs.Tables.{Q}
 use Rattle.sine.proofs.SineNear.{sine-near, cosine-near}
 use Rattle.projection.specs.declared.arc.ArcTerms.{ArcTerms}
 use Rattle.grid.specs.declared.sphere.Sphere.{Sphere}
 use Rattle.projection.specs.declared.position.RayTerms.{RayTerms}
-use Rattle.grid.specs.declared.site.Site.{Site}
+use Rattle.limits.specs.declared.site.Site.{Site}
 use Rattle.projection.specs.declared.position.SiteTerms.{SiteTerms}
 use Rattle.projection.specs.Arc.{arcTerms}
 use Rattle.projection.specs.ExactPosition.{w*, e*, n*, m*, u*, v*, divisor*, X*, Y*, sp*, cp*, sl*, cl*, sa*, ca*}

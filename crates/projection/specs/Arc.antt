@@ -2,7 +2,7 @@
 use Prim.Native.Nat.{ℕ}
 use lib.IntN.{ℤ, pos, _+ℤ_, _-ℤ_, _*ℤ_}
 use Rattle.arithmetic.specs.Floor.{_÷_}
-use Rattle.sine_tables.specs.Tables.{Q}
+use Rattle.sine_series.specs.Tables.{Q}
 use Rattle.projection.specs.declared.arc.ArcTerms.{ArcTerms}
 
 module _ (R r : ℕ) where

@@ -5,7 +5,7 @@ use lib.IntN.{pos, _-ℤ_}
 use Rattle.arithmetic.specs.Fraction.{Fraction, whole, opposite, _⊕_, _⊖_, _⊗_, _⊘_}
 use Rattle.sine.specs.ExactSine.{exactSineOf, exactCosineOf}
 use Rattle.grid.specs.declared.sphere.Sphere.{Sphere}
-use Rattle.grid.specs.declared.site.Site.{Site}
+use Rattle.limits.specs.declared.site.Site.{Site}
 use Rattle.grid.specs.Sphere.{exactK}
 use Rattle.projection.specs.ExactArc.{sd*, cd*}
 

@@ -2,8 +2,8 @@
 use Prim.Native.Nat.{ℕ, _*_, _≤_, _<_}
 use lib.IntN.{ℤ, pos, _-ℤ_, _*ℤ_, natAbs}
 use Rattle.arithmetic.specs.Fraction.{Fraction}
-use Rattle.grid.specs.declared.kinds.Grid.{Grid}
-use Rattle.grid.specs.declared.site.Site.{Site}
+use Rattle.limits.specs.declared.grid.Grid.{Grid}
+use Rattle.limits.specs.declared.site.Site.{Site}
 use Rattle.grid.specs.Sphere.{sphereOf}
 use Rattle.projection.specs.ExactPosition.{X*, Y*}
 

@@ -2,13 +2,13 @@
 use Prim.Native.Nat.{ℕ}
 use lib.IntN.{ℤ, pos, negℤ, natAbs, _+ℤ_, _-ℤ_, _*ℤ_}
 use Rattle.arithmetic.specs.Floor.{_÷_}
-use Rattle.sine_tables.specs.Tables.{Q}
+use Rattle.sine_series.specs.Tables.{Q}
 use Rattle.sine.specs.Sine.{sineOf, cosineOf}
 use Rattle.projection.specs.declared.arc.ArcTerms.{ArcTerms}
 use Rattle.grid.specs.declared.sphere.Sphere.{Sphere}
 use Rattle.projection.specs.declared.position.Position.{Position}
 use Rattle.projection.specs.declared.position.RayTerms.{RayTerms}
-use Rattle.grid.specs.declared.site.Site.{Site}
+use Rattle.limits.specs.declared.site.Site.{Site}
 use Rattle.projection.specs.declared.position.SiteTerms.{SiteTerms}
 use Rattle.projection.specs.Arc.{arcTerms}
 

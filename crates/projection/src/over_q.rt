@@ -3,7 +3,7 @@ ghost use mathlib.Core.Path.{_≡_};
 ghost use lib.IntN.{_+ℤ_, _-ℤ_, _*ℤ_};
 ghost use Rattle.arithmetic.specs.Floor.{_÷_};
 ghost use Rattle.arithmetic.specs.Magnitude.{Magnitude};
-ghost use Rattle.sine_tables.specs.Tables.{Q};
+ghost use Rattle.sine_series.specs.Tables.{Q};
 
 // floor(a x b / Q). A shift of a signed number rounds down.
 pub fn product_over_q(a: i64, b: i64) -> i64

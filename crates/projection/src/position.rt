@@ -4,7 +4,7 @@ use crate::over_q::difference_over_q;
 use crate::over_q::product_over_q;
 use crate::over_q::sum_over_q;
 use arithmetic::floor_div;
-use grid::Site;
+use limits::Site;
 ghost use mathlib.Core.Path.{_≡_};
 ghost use Rattle.arithmetic.specs.Magnitude.{Magnitude};
 ghost use Rattle.projection.specs.Position.{siteTerms, rayTerms, positionBy};

@@ -9,7 +9,7 @@ use native.Mathlib.Omega.{arith}
 use borrow.Author.Tests.{leb-true, eqb-true, le-leb, eq-eqb}
 use lib.ListN.{length, getD}
 use Rattle.arithmetic.specs.Places.{allOf}
-use Rattle.grid.specs.Accepted.{azimuthAccepted}
+use Rattle.limits.specs.Accepted.{azimuthAccepted}
 use Rattle.refusal.specs.Checks.{firstRefusal}
 use Rattle.scan.specs.ScanRefusal.{qualityAccepted, scanRefusal}
 use Rattle.scan.proofs.AcceptedScan.{AcceptedNumbers, accepted-numbers}

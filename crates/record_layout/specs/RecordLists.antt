@@ -3,7 +3,7 @@ use mathlib.Core.List.{List}
 use Prim.Native.Nat.{ℕ}
 use denote.Ref.{now}
 use denote.Triple.Both.{Both}
-use Rattle.cells.specs.LentSums.{Slice, Lent}
+use Rattle.tally.specs.LentSums.{Slice, Lent}
 
 pub record RecordLists : Type 0 where
   pub azimuths : List ℕ

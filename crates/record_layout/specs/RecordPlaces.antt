@@ -6,11 +6,11 @@ use Prim.Native.Nat.{ℕ, _+_, _*_}
 use lib.Dec.{eqb}
 use lib.ListN.{getD}
 use Rattle.arithmetic.specs.Places.{sumTo}
-use Rattle.grid.specs.declared.kinds.Grid.{Grid}
-use Rattle.grid.specs.declared.kinds.Grid.the-variants.{Radolan, Hrap}
-use Rattle.grid.specs.declared.site.Site.{Site}
-use Rattle.cells.specs.declared.gates.Weighting.{Weighting}
-use Rattle.cells.specs.declared.gates.Weighting.the-variants.{Plain, ByQuality}
+use Rattle.limits.specs.declared.grid.Grid.{Grid}
+use Rattle.limits.specs.declared.grid.Grid.the-variants.{Radolan, Hrap}
+use Rattle.limits.specs.declared.site.Site.{Site}
+use Rattle.tally.specs.declared.gates.Weighting.{Weighting}
+use Rattle.tally.specs.declared.gates.Weighting.the-variants.{Plain, ByQuality}
 use Rattle.scan.specs.declared.head.ScanHead.{ScanHead}
 use Rattle.scan.specs.Scan.{Scan}
 use Rattle.big_endian.specs.BigEndian.{numberAt, numbersAt, signedAt}

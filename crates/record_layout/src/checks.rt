@@ -8,7 +8,7 @@ use big_endian::byte_at;
 use big_endian::u32_at;
 ghost use mathlib.Core.Path.{_≡_};
 ghost use Rattle.arithmetic.specs.Places.{allOf};
-ghost use Rattle.grid.specs.Accepted.{azimuthAccepted};
+ghost use Rattle.limits.specs.Accepted.{azimuthAccepted};
 ghost use Rattle.scan.specs.ScanRefusal.{qualityAccepted};
 ghost use Rattle.record_layout.specs.RecordPlaces.{azimuthsIn, qualitiesIn};
 ghost use Rattle.record_layout.specs.RecordRefusal.{recordRefusal};
@@ -20,7 +20,7 @@ fn azimuths_accepted(bytes: &[u8]) -> bool
     let rays = rays_in(bytes);
     let mut k = 0;
     while k < rays {
-        if !grid::azimuth_accepted(u32_at(bytes, start + 4 * k)) {
+        if !limits::azimuth_accepted(u32_at(bytes, start + 4 * k)) {
             return false;
         }
         k += 1;

@@ -6,12 +6,12 @@ use big_endian::i16_at;
 use big_endian::i32_at;
 use big_endian::u16_at;
 use big_endian::u32_at;
-use cells::Weighting;
-use grid::Grid;
-use grid::HrapGrid;
-use grid::RadolanGrid;
-use grid::Site;
+use limits::Grid;
+use limits::HrapGrid;
+use limits::RadolanGrid;
+use limits::Site;
 use scan::ScanHead;
+use tally::Weighting;
 ghost use mathlib.Core.Path.{_≡_};
 ghost use Rattle.record_layout.specs.RecordPlaces.{weightingOf, siteIn, gridIn, headIn};
 

@@ -4,13 +4,13 @@ use Prim.Native.Nat.{ℕ, _≤_}
 use borrow.Author.Tests.{leb-true}
 use lib.ListN.{length}
 use Rattle.arithmetic.specs.Places.{allOf}
-use Rattle.grid.specs.Accepted.{azimuthAccepted}
+use Rattle.limits.specs.Accepted.{azimuthAccepted}
 use Rattle.refusal.specs.Checks.{firstRefusal}
 use Rattle.scan.specs.Scan.{Scan, gatesOf}
 use Rattle.scan.specs.ScanRefusal.{qualityAccepted, givenExact, scanRefusal}
 use Rattle.scan.proofs.AcceptedScan.{AcceptedNumbers, accepted-numbers}
 use Rattle.refusal.proofs.CheckLaws.{passed}
-use Rattle.record_writer.specs.RecordBytes.{recordOf}
+use Rattle.record_contents.specs.RecordBytes.{recordOf}
 use Rattle.record_writer.specs.WriteRefusal.{writeRefusal}
 use Rattle.refusal.proofs.Then.{then-none}
 

@@ -1,4 +1,3 @@
-pub mod ContentLengths
-pub mod WrittenBytes
 pub mod WriterAccepted
 pub mod AcceptedWriting
+pub mod RecordLength

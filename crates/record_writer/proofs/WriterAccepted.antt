@@ -1,52 +1,23 @@
 -- What the writer knows of an accepted site, grid and scan. Assumes nothing.
-use mathlib.Core.Path.{_≡_, refl, sym, ap, _∙_}
-use mathlib.Core.Bool.{true}
+use mathlib.Core.Path.{_≡_, refl, sym, _∙_}
 use mathlib.Core.List.{List}
 use Prim.Native.Nat.{ℕ, _<_, _≤_}
-use native.Mathlib.Omega.{arith}
 use borrow.Author.Tests.{le-leb, lt-leb}
-use lib.Dec.{T, ltb, ltb→lt}
-use lib.IntN.{ℤ, natAbs}
 use lib.ListN.{length}
 use lib.Seq.{sets}
-use mir.Syntax.{w64}
-use mir.Val.{toZ, ofZ}
-use mir.ValLaws.{toZ-ofZ}
-use Rattle.arithmetic.specs.Magnitude.{Magnitude}
-use Rattle.arithmetic.proofs.Machine.{fits64}
-use Rattle.grid.specs.declared.site.Site.{Site}
-use Rattle.grid.specs.Accepted.{siteAccepted}
 use Rattle.refusal.specs.Checks.{firstRefusal}
-use Rattle.grid.proofs.Accepted.{accepted-site}
 use Rattle.refusal.proofs.RangeBounds.{range-bounds}
 use Rattle.scan.specs.Scan.{Scan, gatesOf}
 use Rattle.scan.specs.ScanRefusal.{givenExact, scanRefusal}
 use Rattle.scan.proofs.AcceptedScan.{AcceptedLists, accepted-lists, accepted-numbers}
 use Rattle.record_writer.specs.RecordWritten.{bufferWith}
-use Rattle.record_writer.specs.RecordBytes.{recordOf}
+use Rattle.record_contents.specs.RecordBytes.{recordOf}
 use Rattle.record_writer.specs.WriteRefusal.{writeRefusal}
 use Rattle.record_writer.specs.RecordRoom.{recordLength, Writable}
 use Rattle.record_writer.proofs.AcceptedWriting.{accepted-writing}
-use Rattle.record_writer.proofs.ContentLengths.{record-length}
+use Rattle.record_writer.proofs.RecordLength.{record-length}
 use Rattle.arithmetic.proofs.SetsLaws.{sets-start}
 use Rattle.refusal.proofs.Then.{then-kept, then-next}
-
--- ---- signed numbers in words of 64 bits
-
--- a bounded number, read back
-pub word-same : {z : ℤ} {n : ℕ} → Magnitude z n → T (ltb n 9223372036854775808) → toZ w64 (ofZ w64 z) ≡ z
-word-same {z} m t = toZ-ofZ w64 z (fits64 m t)
-
-pub word-small : {z : ℤ} {n : ℕ} (span : ℕ) → Magnitude z n → T (ltb n 9223372036854775808) → T (ltb n span) → natAbs (toZ w64 (ofZ w64 z)) < span
-word-small {z} {n} span m t s = rw (word-same m t) (omega (arith, m .bound, ltb→lt n span s))
-
-pub latitude-limit : (site : Site) → siteAccepted site ≡ true → Magnitude (site .latitude) 750000
-latitude-limit site e =
-    let known = accepted-site site e .latitude in
-    record { bound = omega (arith, ap natAbs (known .1)) }
-
-pub longitude-limit : (site : Site) → siteAccepted site ≡ true → Magnitude (site .longitude) 1800000
-longitude-limit site e = accepted-site site e .longitude
 
 -- ---- the writer's refusal
 

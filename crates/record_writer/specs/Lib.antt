@@ -1,4 +1,3 @@
-pub mod RecordBytes
 pub mod RecordRoom
 pub mod RecordWritten
 pub mod WriteRefusal

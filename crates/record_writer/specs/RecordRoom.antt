@@ -3,10 +3,10 @@ use mathlib.Core.Bool.{true}
 use mathlib.Core.Path.{_≡_}
 use Prim.Native.Nat.{ℕ, _+_, _*_, _≤_}
 use lib.ListN.{length}
-use Rattle.grid.specs.Accepted.{siteAccepted, gridAccepted}
+use Rattle.limits.specs.Accepted.{siteAccepted, gridAccepted}
 use Rattle.scan.specs.declared.head.ScanHead.{ScanHead}
 use Rattle.scan.specs.Scan.{Scan, gatesOf}
-use Rattle.record_writer.specs.RecordBytes.{gridBytes}
+use Rattle.record_contents.specs.RecordBytes.{gridBytes}
 
 -- seven headers, 8 bytes of site, 12 of gates, the grid, 1 of weighting, 4 a ray, 2 and 1 a gate
 unfoldable pub recordLength : ScanHead → ℕ

@@ -8,7 +8,7 @@ use Rattle.refusal.specs.Answer.{Answer, gives, refuses, answered, afterwards}
 use Rattle.scan.specs.Scan.{Scan}
 use Rattle.record_writer.specs.declared.writer.WrittenScan.{WrittenScan}
 use Rattle.record_writer.specs.declared.writer.WrittenScan.the-variants as written
-use Rattle.record_writer.specs.RecordBytes.{recordOf}
+use Rattle.record_contents.specs.RecordBytes.{recordOf}
 use Rattle.record_writer.specs.WriteRefusal.{writeRefusal}
 
 -- document 01's number and value for each case of the answer

@@ -6,7 +6,7 @@ use lib.ListN.{length}
 use Rattle.refusal.specs.Checks.{_unless_, firstRefusal, _then_}
 use Rattle.scan.specs.Scan.{Scan, gatesOf}
 use Rattle.scan.specs.ScanRefusal.{givenExact, scanRefusal}
-use Rattle.record_writer.specs.RecordBytes.{recordOf}
+use Rattle.record_contents.specs.RecordBytes.{recordOf}
 
 -- 1 to 8, where 6 is for the scan's own lists, then 15, 16; the buffer's length comes last
 unfoldable pub writeRefusal : Scan → ℕ → ℕ

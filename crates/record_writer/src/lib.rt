@@ -1,5 +1,4 @@
 // A scan record that is written.
-mod contents;
 mod writer;
 
 pub use writer::WrittenScan;

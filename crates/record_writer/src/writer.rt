@@ -1,19 +1,19 @@
 // Writes a record.
-use crate::contents::put_azimuths;
-use crate::contents::put_gates;
-use crate::contents::put_grid;
-use crate::contents::put_qualities;
-use crate::contents::put_site;
-use crate::contents::put_values;
-use crate::contents::put_weighting;
-use grid::Grid;
+use limits::Grid;
+use record_contents::put_azimuths;
+use record_contents::put_gates;
+use record_contents::put_grid;
+use record_contents::put_qualities;
+use record_contents::put_site;
+use record_contents::put_values;
+use record_contents::put_weighting;
 use scan::ScanHead;
 ghost use mathlib.Core.Path.{_≡_};
 ghost use Prim.Native.Nat.{_≤_};
 ghost use lib.ListN.{length};
 ghost use lib.Seq.{sets};
 ghost use Rattle.scan.specs.Scan.{gatesOf, scanHeld};
-ghost use Rattle.record_writer.specs.RecordBytes.{gridBytes, recordOf};
+ghost use Rattle.record_contents.specs.RecordBytes.{gridBytes, recordOf};
 ghost use Rattle.record_writer.specs.WriteRefusal.{writeRefusal};
 ghost use Rattle.record_writer.specs.RecordRoom.{recordLength, Writable};
 ghost use Rattle.record_layout.specs.RecordLists.{lentBytes};

@@ -15,26 +15,27 @@ use Rattle.arithmetic.proofs.Test.{and-true}
 use Rattle.placement.specs.Gate.{placementOf, unlessRefused, entryOf}
 use Rattle.projection.specs.Position.{positionOf}
 use Rattle.refusal.specs.Checks.{inRange, firstRefusal}
-use Rattle.grid.specs.Accepted.{rangeAccepted, azimuthAccepted, siteAccepted, gridAccepted}
+use Rattle.limits.specs.Accepted.{rangeAccepted, azimuthAccepted, siteAccepted, gridAccepted}
 use Rattle.placement.specs.GateRefusal.{gateRefusal}
 use Rattle.placement.specs.Survey.{Surveyed, surveyOf, surveyed, surveyedEntry}
 use Rattle.placement.proofs.SurveyLimits.{surveyed-of}
 use Rattle.scan.specs.declared.head.ScanHead.{ScanHead}
-use Rattle.cells.specs.Publish.{publishedCells}
+use Rattle.publish.specs.Publish.{publishedCells}
 use Rattle.scan.specs.Rays.{regularRays}
 use Rattle.scan.specs.LentLists.{Lists}
-use Rattle.cells.specs.LentSums.{Sums}
+use Rattle.tally.specs.LentSums.{Sums}
 use Rattle.scan.specs.Scan.{Scan, raysOf, gatesOf, cellsOf}
 use Rattle.remap.specs.Remap.{ledgerOf, filledLists}
 use Rattle.scan.specs.ScanRefusal.{centresAccepted, qualityAccepted}
-use Rattle.remap.specs.LedgerRoom.{RaysSpan, surveyedLedger}
-use Rattle.cells.specs.Tally.{talliedSums, cleared, addedSums}
-use Rattle.cells.specs.TallyRoom.{Addable, Publishable}
+use Rattle.scan_ledger.specs.LedgerRoom.{RaysSpan, surveyedLedger}
+use Rattle.tally.specs.Tally.{talliedSums, cleared, addedSums}
+use Rattle.tally.specs.TallyRoom.{Addable}
+use Rattle.publish.specs.PublishRoom.{Publishable}
 use Rattle.scan.proofs.AcceptedScan.{AcceptedScan}
 use Rattle.scan.proofs.RayLaws.{gates-length, gates-same, regular-gates}
-use Rattle.cells.proofs.TallyWidth.{GatesMost, count-fits, quality-sum-fits, value-sum-fits}
-use Rattle.cells.proofs.TallyFromNothing.{zeros-at, from-nothing}
-use Rattle.cells.proofs.PublishedRange.{mean-published, quality-published}
+use Rattle.tally.proofs.TallyWidth.{GatesMost, count-fits, quality-sum-fits, value-sum-fits}
+use Rattle.tally.proofs.TallyFromNothing.{zeros-at, from-nothing}
+use Rattle.publish.proofs.PublishedRange.{mean-published, quality-published}
 
 -- the last centre is the farthest
 pub centres-most : (gates first spacing g : ℕ) → centresAccepted gates first spacing ≡ true → g < gates → first + g * spacing ≤ 46000000

@@ -1,2 +1,1 @@
-pub mod ScanLedger
 pub mod AcceptedRemap

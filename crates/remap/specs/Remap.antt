@@ -13,8 +13,8 @@ use Rattle.scan.specs.LentLists.{Lists}
 use Rattle.scan.specs.Scan.{Scan, raysOf, cellsOf}
 use Rattle.scan.specs.ScanRefusal.{refusalFor}
 use Rattle.scan.specs.Rays.{Ray, allGates}
-use Rattle.cells.specs.Tally.{countOf, qualitySumOf, valueSumOf, talliedSums}
-use Rattle.cells.specs.Publish.{meanOf, divisorOf, qualityOf}
+use Rattle.tally.specs.Tally.{countOf, qualitySumOf, valueSumOf, talliedSums}
+use Rattle.publish.specs.Publish.{meanOf, divisorOf, qualityOf}
 
 -- the ledger entry of each gate of the rays, measured or not
 unfoldable pub ledgerOf : ScanHead → List Ray → List ℕ

@@ -1,5 +1,4 @@
 // A scan to its ledger, sums and cells.
-mod ledger;
 mod remap_scan;
 
 pub use remap_scan::Remapped;

@@ -1,14 +1,14 @@
 // The whole scan: one scan, one site and one grid come in; out come the ledger, the cell sums and the published cells.
-use crate::ledger::scan_ledger;
-use cells::clear_sums;
-use cells::publish;
-use cells::tally;
+use publish::publish;
 use scan::Lengths;
 use scan::ScanHead;
 use scan::azimuths_accepted;
 use scan::lengths_accepted;
 use scan::qualities_accepted;
 use scan::scan_refusal;
+use scan_ledger::scan_ledger;
+use tally::clear_sums;
+use tally::tally;
 ghost use mathlib.Core.Path.{_≡_};
 ghost use Rattle.scan.specs.LentLists.{listsHeld, lentLists};
 ghost use Rattle.remap.specs.Remap.{filledLists, Remaps};

@@ -11,26 +11,26 @@ use lib.ListN.{getD, length-append}
 use Rattle.arithmetic.specs.Magnitude.{Magnitude}
 use Rattle.arithmetic.proofs.Magnitude.{magnitude-pos}
 use Rattle.arithmetic.proofs.Test.{and-true}
-use Rattle.grid.specs.declared.kinds.Grid.{Grid}
-use Rattle.grid.specs.declared.kinds.Grid.the-variants.{Radolan, Hrap}
-use Rattle.grid.specs.declared.kinds.HrapGrid.{HrapGrid}
-use Rattle.grid.specs.declared.kinds.RadolanGrid.{RadolanGrid}
-use Rattle.grid.specs.declared.site.Site.{Site}
+use Rattle.limits.specs.declared.grid.Grid.{Grid}
+use Rattle.limits.specs.declared.grid.Grid.the-variants.{Radolan, Hrap}
+use Rattle.limits.specs.declared.grid.HrapGrid.{HrapGrid}
+use Rattle.limits.specs.declared.grid.RadolanGrid.{RadolanGrid}
+use Rattle.limits.specs.declared.site.Site.{Site}
 use Rattle.refusal.specs.Checks.{inRange}
-use Rattle.grid.specs.Accepted.{siteAccepted, gridAccepted}
+use Rattle.limits.specs.Accepted.{siteAccepted, gridAccepted}
 use Rattle.refusal.proofs.RangeBounds.{range-bounds}
-use Rattle.grid.proofs.Accepted.{accepted-site, accepted-radolan, accepted-hrap}
-use Rattle.cells.specs.declared.gates.Weighting.{Weighting}
-use Rattle.cells.specs.declared.gates.Weighting.the-variants.{Plain, ByQuality}
+use Rattle.limits.proofs.Accepted.{accepted-site, accepted-radolan, accepted-hrap}
+use Rattle.tally.specs.declared.gates.Weighting.{Weighting}
+use Rattle.tally.specs.declared.gates.Weighting.the-variants.{Plain, ByQuality}
 use Rattle.scan.specs.declared.head.ScanHead.{ScanHead}
 use Rattle.scan.specs.ScanRefusal.{centresAccepted}
 use Rattle.big_endian.specs.BigEndian.{bytesOf, signedBytesOf, numberAt}
-use Rattle.record_writer.specs.RecordBytes.{siteBytes, gatesBytes, gridBytes, weightingByte}
+use Rattle.record_contents.specs.RecordBytes.{siteBytes, gatesBytes, gridBytes, weightingByte}
 use Rattle.record_layout.specs.RecordPlaces.{weightingOf, gridLength, siteIn, gridIn}
 use Rattle.record_layout.specs.RecordRefusal.{kindAccepted}
 use Rattle.big_endian.proofs.StandsAt.{Stands, stands-front, stands-rest}
 use Rattle.big_endian.proofs.BigEndianLaws.{bytes-length, signed-length, number-read, byte-read, signed-number-read}
-use Rattle.record_writer.proofs.ContentLengths.{gridLengthOf}
+use Rattle.record_contents.proofs.ContentLengths.{gridLengthOf}
 
 -- ---- 1, site
 

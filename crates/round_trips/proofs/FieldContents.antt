@@ -5,7 +5,7 @@ use mathlib.Core.List.{List, []}
 use Prim.Native.Nat.{ℕ, _+_, _<_}
 use native.Mathlib.Omega.{arith}
 use lib.ListN.{getD, take, drop}
-use Rattle.record_writer.specs.RecordBytes.{contentsOf}
+use Rattle.record_contents.specs.RecordBytes.{contentsOf}
 use Rattle.record_layout.specs.RecordPlaces.{contentLength, contentStart, scanIn}
 use Rattle.record_layout.specs.RecordRefusal.{headRefusal}
 use Rattle.record_reader.specs.FieldPart.{part, fieldPart}

@@ -8,11 +8,11 @@ use lib.ListN.{length, getD, length-append}
 use Rattle.arithmetic.specs.Places.{sumTo}
 use Rattle.arithmetic.proofs.Places.{sum-ext}
 use Rattle.big_endian.specs.BigEndian.{bytesOf, numberAt}
-use Rattle.record_writer.specs.RecordBytes.{headerBytes, fieldBytes, fieldsBytes}
+use Rattle.record_contents.specs.RecordBytes.{headerBytes, fieldBytes, fieldsBytes}
 use Rattle.record_layout.specs.RecordPlaces.{contentLength, fieldStart}
 use Rattle.big_endian.proofs.StandsAt.{Stands, stands-none, stands-moved, stands-front, stands-back, stands-join, stands-next, stands-rest}
 use Rattle.big_endian.proofs.BigEndianLaws.{bytes-length, byte-read, byte-written, number-read, number-written}
-use Rattle.record_writer.proofs.ContentLengths.{field-length}
+use Rattle.record_contents.proofs.ContentLengths.{field-length}
 
 -- ---- one field
 

@@ -17,7 +17,7 @@ use Rattle.record_layout.specs.RecordPlaces.{raysIn, gatesIn, gridLength, conte
 use Rattle.record_layout.specs.RecordRefusal.{kindAccepted, weightingAccepted, contentAccepted, fieldRefusal, fieldsRefusal, layoutRefusal, recordRefusal, headRefusal}
 use Rattle.refusal.proofs.Then.{then-none, then-same}
 use Rattle.big_endian.proofs.BigEndianLaws.{number-small}
-use Rattle.record_writer.proofs.ContentLengths.{each-field}
+use Rattle.record_contents.proofs.ContentLengths.{each-field}
 use Rattle.record_layout.proofs.AcceptedRecord.{accepted-field, fields-accepted, accepted-layout}
 use Rattle.round_trips.proofs.ReadThenWrite.{gates-most}
 

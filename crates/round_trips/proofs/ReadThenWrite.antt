@@ -14,14 +14,14 @@ use Rattle.scan.specs.Scan.{gatesOf}
 use Rattle.scan.specs.ScanRefusal.{givenExact}
 use Rattle.scan.proofs.AcceptedScan.{by-last-list}
 use Rattle.big_endian.specs.BigEndian.{bytesOf, numberAt}
-use Rattle.record_writer.specs.RecordBytes.{siteBytes, gatesBytes, gridBytes, weightingByte, contentsOf, fieldBytes, recordOf}
+use Rattle.record_contents.specs.RecordBytes.{siteBytes, gatesBytes, gridBytes, weightingByte, contentsOf, fieldBytes, recordOf}
 use Rattle.record_layout.specs.RecordPlaces.{weightingOf, gridLength, raysIn, gatesIn, contentLength, fieldStart, contentStart, siteIn, gridIn, headIn, azimuthsIn, valuesIn, qualitiesIn, scanIn}
 use Rattle.record_layout.specs.RecordRefusal.{kindAccepted, weightingAccepted, contentAccepted, headRefusal}
 use Rattle.record_writer.specs.WriteRefusal.{writeRefusal}
 use Rattle.big_endian.proofs.StandsAt.{Stands, stands-moved, stands-next, stands-all}
 use Rattle.big_endian.proofs.BigEndianLaws.{bytes-length, signed-length, all-bytes-length, numbers-length, byte-written, number-small, number-written, numbers-written, signed-number-written}
 use Rattle.round_trips.proofs.FieldStands.{startAmong, field-written, fields-written, fields-length, same-starts}
-use Rattle.record_writer.proofs.ContentLengths.{each-field, site-length, gates-length, gridLengthOf, grid-length}
+use Rattle.record_contents.proofs.ContentLengths.{each-field, site-length, gates-length, gridLengthOf, grid-length}
 use Rattle.record_layout.proofs.AcceptedRecord.{AcceptedField, AcceptedLayout, accepted-record}
 use Rattle.refusal.proofs.Then.{then-zero}
 

@@ -15,7 +15,7 @@ use Rattle.record_writer.specs.declared.writer.WrittenScan.{WrittenScan}
 use Rattle.record_writer.specs.declared.writer.WrittenScan.the-variants as written
 use Rattle.record_reader.specs.RecordRead.{readAnswer, listsIn, Reads}
 use Rattle.record_writer.specs.RecordWritten.{writtenAnswer, bufferWith, Writes}
-use Rattle.record_writer.specs.RecordBytes.{recordOf}
+use Rattle.record_contents.specs.RecordBytes.{recordOf}
 use Rattle.record_layout.specs.RecordLists.{RecordLists}
 use Rattle.record_layout.specs.RecordPlaces.{headIn, scanIn}
 use Rattle.record_layout.specs.RecordRefusal.{readRefusal}

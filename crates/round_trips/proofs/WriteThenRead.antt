@@ -9,16 +9,16 @@ use borrow.Author.Tests.{leb-true}
 use lib.ListN.{length, getD}
 use Rattle.arithmetic.specs.Places.{sumTo}
 use Rattle.arithmetic.proofs.Places.{all-at}
-use Rattle.grid.specs.declared.kinds.Grid.{Grid}
-use Rattle.grid.specs.declared.kinds.Grid.the-variants.{Radolan, Hrap}
-use Rattle.grid.specs.Accepted.{azimuthAccepted}
+use Rattle.limits.specs.declared.grid.Grid.{Grid}
+use Rattle.limits.specs.declared.grid.Grid.the-variants.{Radolan, Hrap}
+use Rattle.limits.specs.Accepted.{azimuthAccepted}
 use Rattle.refusal.proofs.RangeBounds.{range-bounds}
-use Rattle.grid.proofs.Accepted.{accepted-azimuth}
+use Rattle.limits.proofs.Accepted.{accepted-azimuth}
 use Rattle.scan.specs.Scan.{Scan, gatesOf}
 use Rattle.scan.specs.ScanRefusal.{listsAccepted, qualityAccepted, givenExact, scanRefusal}
 use Rattle.scan.proofs.AcceptedScan.{AcceptedLists, accepted-lists}
 use Rattle.big_endian.specs.BigEndian.{numberAt, numbersAt}
-use Rattle.record_writer.specs.RecordBytes.{gridBytes, contentsOf, fieldBytes, recordOf}
+use Rattle.record_contents.specs.RecordBytes.{gridBytes, contentsOf, fieldBytes, recordOf}
 use Rattle.record_layout.specs.RecordPlaces.{gridLength, raysIn, gatesIn, contentLength, fieldStart, contentStart, headIn, azimuthsIn, valuesIn, qualitiesIn, scanIn}
 use Rattle.record_layout.specs.RecordLists.{RecordLists}
 use Rattle.record_layout.specs.RecordRefusal.{weightingAccepted, contentAccepted, recordRefusal, headRefusal, readRefusal}
@@ -26,7 +26,7 @@ use Rattle.record_writer.specs.WriteRefusal.{writeRefusal}
 use Rattle.big_endian.proofs.StandsAt.{Stands, stands-moved, stands-whole, stands-within}
 use Rattle.big_endian.proofs.BigEndianLaws.{bytes-length, all-bytes-length, numbers-read}
 use Rattle.round_trips.proofs.FieldStands.{FieldAt, field-read, startAmong, fields-length, fields-read, same-starts}
-use Rattle.record_writer.proofs.ContentLengths.{each-field, field-length, site-length, gates-length, gridLengthOf, grid-length, grid-length-most}
+use Rattle.record_contents.proofs.ContentLengths.{each-field, field-length, site-length, gates-length, gridLengthOf, grid-length, grid-length-most}
 use Rattle.round_trips.proofs.ContentsRead.{GatesRead, site-read, gates-are-read, grid-read, kind-read, weighting-read}
 use Rattle.record_layout.proofs.AcceptedRecord.{AcceptedField, AcceptedLayout, layout-none}
 use Rattle.record_writer.proofs.AcceptedWriting.{AcceptedWriting, accepted-writing}

@@ -6,12 +6,12 @@ use borrow.Author.Tests.{eqb-true, eq-eqb}
 use lib.Dec.{eqb}
 use Rattle.arithmetic.specs.Places.{allOf}
 use Rattle.arithmetic.proofs.Test.{and-true}
-use Rattle.grid.specs.declared.kinds.Grid.{Grid}
-use Rattle.grid.specs.declared.kinds.Grid.the-variants.{Radolan, Hrap}
+use Rattle.limits.specs.declared.grid.Grid.{Grid}
+use Rattle.limits.specs.declared.grid.Grid.the-variants.{Radolan, Hrap}
 use Rattle.refusal.specs.Checks.{inRange, firstRefusal}
-use Rattle.grid.specs.Accepted.{azimuthAccepted, siteAccepted, gridAccepted}
+use Rattle.limits.specs.Accepted.{azimuthAccepted, siteAccepted, gridAccepted}
 use Rattle.grid.specs.Window.{windowOf}
-use Rattle.grid.proofs.Accepted.{AcceptedSize, accepted-radolan, accepted-hrap}
+use Rattle.limits.proofs.Accepted.{AcceptedSize, accepted-radolan, accepted-hrap}
 use Rattle.refusal.proofs.RangeBounds.{range-bounds}
 use Rattle.scan.specs.declared.lengths.Lengths.{Lengths}
 use Rattle.scan.specs.declared.head.ScanHead.{ScanHead}

@@ -3,7 +3,7 @@ use mathlib.Core.List.{List}
 use Prim.Native.Nat.{ℕ}
 use denote.Ref.{now}
 use denote.Triple.Both.{Both}
-use Rattle.cells.specs.LentSums.{Sums, Cells, Slice, sumsHeld, cellsHeld, Lent}
+use Rattle.tally.specs.LentSums.{Sums, Cells, Slice, sumsHeld, cellsHeld, Lent}
 
 -- the ledger has a number for each gate
 pub record Lists : Type 0 where

@@ -4,7 +4,7 @@ use Prim.Native.Nat.{ℕ, _*_}
 use denote.Ref.{now}
 use Rattle.grid.specs.Window.{windowOf}
 use Rattle.scan.specs.declared.head.ScanHead.{ScanHead}
-use Rattle.cells.specs.LentSums.{Slice}
+use Rattle.tally.specs.LentSums.{Slice}
 use Rattle.scan.specs.Rays.{Ray, regularRays}
 
 -- an azimuth for each ray; a value and a quality for each gate, ray by ray

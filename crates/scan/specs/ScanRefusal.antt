@@ -6,7 +6,7 @@ use lib.Dec.{leb, eqb}
 use lib.ListN.{length}
 use Rattle.arithmetic.specs.Places.{allOf}
 use Rattle.refusal.specs.Checks.{inRange, _unless_, firstRefusal}
-use Rattle.grid.specs.Accepted.{azimuthAccepted, siteAccepted, gridAccepted}
+use Rattle.limits.specs.Accepted.{azimuthAccepted, siteAccepted, gridAccepted}
 use Rattle.scan.specs.declared.head.ScanHead.{ScanHead}
 use Rattle.scan.specs.declared.lengths.Lengths.{Lengths}
 use Rattle.scan.specs.LentLists.{Lists}

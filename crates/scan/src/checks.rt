@@ -3,7 +3,7 @@ use crate::head::ScanHead;
 ghost use mathlib.Core.Path.{_≡_};
 ghost use Prim.Native.Nat.{_≤_, _*_};
 ghost use Rattle.arithmetic.specs.Places.{allOf};
-ghost use Rattle.grid.specs.Accepted.{azimuthAccepted};
+ghost use Rattle.limits.specs.Accepted.{azimuthAccepted};
 ghost use Rattle.scan.specs.ScanRefusal.{centresAccepted, qualityAccepted, scanNumber};
 
 // The lowest refusal number of 1 to 8 that applies, or 0: of the numbers, of the lists' lengths, of the azimuths and of the qualities.
@@ -20,11 +20,11 @@ pub fn scan_refusal(head: ScanHead, lengths: bool, azimuths: bool, qualities: bo
         return 3;
     }
     let site = head.site;
-    if !grid::site_accepted(site) {
+    if !limits::site_accepted(site) {
         return 4;
     }
     let grid = head.grid;
-    if !grid::grid_accepted(grid) {
+    if !limits::grid_accepted(grid) {
         return 5;
     }
     if !lengths {
@@ -57,7 +57,7 @@ pub fn azimuths_accepted(azimuths: &[u32]) -> bool
 {
     let mut k = 0;
     while k < azimuths.len() {
-        if !grid::azimuth_accepted(azimuths[k]) {
+        if !limits::azimuth_accepted(azimuths[k]) {
             return false;
         }
         k += 1;

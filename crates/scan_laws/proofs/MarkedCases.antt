@@ -6,31 +6,31 @@ use Rattle.arithmetic.specs.Fraction.{_⊕_, opposite}
 use Rattle.arithmetic.specs.Nearness.{nearest}
 use Rattle.arithmetic.specs.Places.{table, sumTo, allOf}
 use Rattle.sine.specs.Quarters.{byQuarters, inTurn, inQuarter}
-use Rattle.sine_tables.specs.Series.{arc, arcUnit, factorial, term, alternating, sineSeries, cosineSeries}
+use Rattle.sine_series.specs.Series.{arc, arcUnit, factorial, term, alternating, sineSeries, cosineSeries}
 use Rattle.sine.specs.Sine.{quarterSine, sineOf, cosineOf}
-use Rattle.sine_tables.specs.Tables.{S, F, G}
+use Rattle.sine_series.specs.Tables.{S, F, G}
 use Rattle.projection.specs.Arc.{d, d2, d3, d4, d5, sd, cd, arcTerms}
 use Rattle.placement.specs.Gate.{unlessRefused, placementOf, entryOf}
 use Rattle.placement.specs.GateCases.{exampleGrid, anyRadolan, GateHolds}
 use Rattle.projection.specs.Position.{siteTerms, rayTerms, w, e, n, m, u, v, divisor, X, Y, positionBy, positionOf}
 use Rattle.refusal.specs.Checks.{inRange, inSignedRange, firstRefusal}
-use Rattle.grid.specs.Accepted.{rangeAccepted, azimuthAccepted, siteAccepted, sizeAccepted, gridAccepted}
+use Rattle.limits.specs.Accepted.{rangeAccepted, azimuthAccepted, siteAccepted, sizeAccepted, gridAccepted}
 use Rattle.placement.specs.GateRefusal.{gateRefusal}
 use Rattle.grid.specs.Sphere.{sphereOf, radolanSphere, hrapSphere}
 use Rattle.grid.specs.Window.{windowOf, indexOf, inSpan, cellNumber}
 use Rattle.placement.specs.Located.{column, row, inWindow, located}
 use Rattle.placement.proofs.GateCases.{hrap-meridian, radolan-meridian, mesh-column-of-zero, west-of-edge, on-edge, west-of-next-edge, on-next-edge}
-use Rattle.cells.specs.declared.gates.Weighting.{Weighting}
-use Rattle.cells.specs.declared.gates.Weighting.the-variants.{Plain, ByQuality}
-use Rattle.cells.specs.Gates.{isMeasured, echoOf, weighed}
+use Rattle.tally.specs.declared.gates.Weighting.{Weighting}
+use Rattle.tally.specs.declared.gates.Weighting.the-variants.{Plain, ByQuality}
+use Rattle.tally.specs.Gates.{isMeasured, echoOf, weighed}
 use Rattle.scan_laws.specs.MarkedCases.{exampleHead, example, exampleScan, exampleWith, RefusedBy, CellsHold, Holds, AllHold, markedCases}
-use Rattle.cells.specs.Publish.{meanOf, divisorOf, qualityOf}
+use Rattle.publish.specs.Publish.{meanOf, divisorOf, qualityOf}
 use Rattle.scan.specs.Rays.{rayGates, allGates, regularRays}
 use Rattle.scan.specs.Scan.{raysOf, cellsOf}
 use Rattle.remap.specs.Remap.{ledgerOf, filledLists}
 use Rattle.refusal.specs.Answer.{afterwards}
 use Rattle.scan.specs.ScanRefusal.{centresAccepted, qualityAccepted, scanNumber, scanRefusal, refusalFor}
-use Rattle.cells.specs.Tally.{contributes, sumOver, countOf, qualitySumOf, valueSumOf, talliedSums}
+use Rattle.tally.specs.Tally.{contributes, sumOver, countOf, qualitySumOf, valueSumOf, talliedSums}
 
 -- both gates lie in cell 1
 example-ledger : (weighting : Weighting) → ledgerOf (example weighting) (regularRays 2 (0 ∷ [])) ≡ 1 ∷ 1 ∷ []

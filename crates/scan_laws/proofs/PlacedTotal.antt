@@ -19,12 +19,12 @@ use Rattle.placement.specs.Gate.{unlessRefused, placementOf, entryOf}
 use Rattle.grid.specs.Window.{windowOf, inSpan, cellNumber}
 use Rattle.placement.specs.Located.{inWindow, located, row, column}
 use Rattle.grid.proofs.Cells.{in-span-natural}
-use Rattle.cells.specs.Gates.{isMeasured}
+use Rattle.tally.specs.Gates.{isMeasured}
 use Rattle.scan_laws.specs.Placed.{isInside, gatePlacement, gateValue, isPlaced, placedOf}
 use Rattle.remap.specs.Remap.{ledgerOf, filledLists}
 use Rattle.scan.specs.Scan.{cellsOf, Scan, raysOf}
-use Rattle.cells.specs.Tally.{countOf, talliedSums}
-use Rattle.cells.proofs.CountTotal.{count-total}
+use Rattle.tally.specs.Tally.{countOf, talliedSums}
+use Rattle.tally.proofs.CountTotal.{count-total}
 use Rattle.scan_laws.proofs.LedgerEntry.{ledger-entry}
 use Rattle.scan.proofs.RayLaws.{gates-length, regular-gates}
 

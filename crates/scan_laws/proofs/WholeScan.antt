@@ -9,14 +9,14 @@ use Rattle.arithmetic.specs.Places.{sumTo}
 use Rattle.arithmetic.proofs.Places.{table-at}
 use Rattle.refusal.proofs.AnswerLaws.{given-is, filled-is}
 use Rattle.remap.specs.declared.remap_scan.Remapped.the-variants.{Done}
-use Rattle.cells.specs.Gates.{echoOf}
+use Rattle.tally.specs.Gates.{echoOf}
 use Rattle.scan.specs.LentLists.{Lists}
 use Rattle.scan_laws.specs.Placed.{placedOf}
 use Rattle.remap.specs.Remap.{filledLists, remapAnswer, Remaps}
 use Rattle.scan.specs.Scan.{Scan, cellsOf}
 use Rattle.scan.specs.ScanRefusal.{refusalFor}
 use Rattle.scan.proofs.AcceptedScan.{AcceptedScan, accepted-scan, window-size}
-use Rattle.cells.proofs.MeanBetween.{HasPart, cellMean, mean-between}
+use Rattle.publish.proofs.MeanBetween.{HasPart, cellMean, mean-between}
 use Rattle.scan_laws.proofs.PlacedTotal.{placed-total}
 
 cells-most : (scan : Scan) (lists : Lists) → AcceptedScan scan lists → cellsOf (scan .head) ≤ 4294967295

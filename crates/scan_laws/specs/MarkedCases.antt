@@ -6,8 +6,8 @@ use Prim.Native.Nat.{ℕ, _-_}
 use lib.IntN.{ℤ, pos, negsuc}
 use Rattle.refusal.specs.Answer.{afterwards}
 use Rattle.placement.specs.GateCases.{GateCase, xIsZero, meshColumnOfZero, columnAt, rangeRefusal, latitudeRefusal, azimuthRefusal, exampleGrid, anyRadolan, GateHolds}
-use Rattle.cells.specs.declared.gates.Weighting.{Weighting}
-use Rattle.cells.specs.declared.gates.Weighting.the-variants.{Plain, ByQuality}
+use Rattle.tally.specs.declared.gates.Weighting.{Weighting}
+use Rattle.tally.specs.declared.gates.Weighting.the-variants.{Plain, ByQuality}
 use Rattle.scan.specs.declared.head.ScanHead.{ScanHead}
 use Rattle.scan.specs.LentLists.{Lists}
 use Rattle.remap.specs.Remap.{filledLists}

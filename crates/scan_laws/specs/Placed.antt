@@ -6,7 +6,7 @@ use Rattle.arithmetic.specs.Places.{sumTo}
 use Rattle.placement.specs.declared.gate.Placement.{Placement}
 use Rattle.placement.specs.declared.gate.Placement.the-variants.{Inside, Outside, Refused}
 use Rattle.placement.specs.Gate.{placementOf}
-use Rattle.cells.specs.Gates.{isMeasured}
+use Rattle.tally.specs.Gates.{isMeasured}
 use Rattle.scan.specs.Scan.{Scan}
 
 unfoldable pub isInside : Placement → Bool

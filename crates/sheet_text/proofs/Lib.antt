@@ -1,2 +1,1 @@
-pub mod GoodRecord
 pub mod SheetAnswers

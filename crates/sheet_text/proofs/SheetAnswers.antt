@@ -12,7 +12,8 @@ use Rattle.record_layout.specs.RecordPlaces.{headIn}
 use Rattle.record_layout.specs.RecordRefusal.{headRefusal}
 use Rattle.text.specs.RefusedLine.{refusedLine}
 use Rattle.sheet_lines.specs.SheetLines.{tooLarge}
-use Rattle.sheet_text.specs.SheetText.{refusedOr, goodSheet, sizedSheet, sheetText}
+use Rattle.sheet_text.specs.SheetText.{refusedOr, sizedSheet, sheetText}
+use Rattle.record_sheet.specs.GoodSheet.{goodSheet}
 
 -- ---- the two sizes
 

@@ -1,2 +1,1 @@
 pub mod SheetText
-pub mod SheetRoom

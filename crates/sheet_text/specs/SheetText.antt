@@ -4,14 +4,12 @@ use mathlib.Core.List.{List}
 use Prim.Native.Nat.{ℕ, zero, suc}
 use lib.Dec.{leb}
 use lib.ListN.{length}
-use Rattle.grid.specs.Window.{windowOf}
 use Rattle.scan.specs.Scan.{gatesOf, cellsOf}
-use Rattle.scan_laws.specs.Placed.{placedOf}
-use Rattle.remap.specs.Remap.{filledLists}
-use Rattle.record_layout.specs.RecordPlaces.{headIn, scanIn}
+use Rattle.record_layout.specs.RecordPlaces.{headIn}
 use Rattle.record_layout.specs.RecordRefusal.{headRefusal}
 use Rattle.text.specs.RefusedLine.{refusedLine}
-use Rattle.sheet_lines.specs.SheetLines.{tooLarge, sheetLines}
+use Rattle.sheet_lines.specs.SheetLines.{tooLarge}
+use Rattle.record_sheet.specs.GoodSheet.{goodSheet}
 
 -- a refusal prints `refused` and the number, and there is no sheet
 unfoldable pub refusedOr : ℕ → List ℕ → List ℕ
@@ -19,15 +17,9 @@ refusedOr zero sheet = sheet
 refusedOr (suc number) sheet = refusedLine (suc number)
 
 module _ (bytes : List ℕ) where
-  unfoldable pub goodSheet : List ℕ
-  goodSheet =
-      let lists = filledLists (scanIn bytes) in
-      sheetLines (windowOf (headIn bytes .grid) .columns) (windowOf (headIn bytes .grid) .rows) (gatesOf (headIn bytes))
-      (placedOf (scanIn bytes)) (lists .sums .counts) (lists .cells .means) (lists .cells .qualities)
-
   -- a good record of at most 4,096 gates and 1,024 cells
   unfoldable pub sizedSheet : List ℕ
-  sizedSheet = cond (leb (gatesOf (headIn bytes)) 4096 && leb (cellsOf (headIn bytes)) 1024) goodSheet tooLarge
+  sizedSheet = cond (leb (gatesOf (headIn bytes)) 4096 && leb (cellsOf (headIn bytes)) 1024) (goodSheet bytes) tooLarge
 
   -- input over 16,384 bytes, then a refusal, then a good record beyond the two sizes
   unfoldable pub sheetText : List ℕ

@@ -1,5 +1,4 @@
-// The sheet of a scan record: its cells as lines of text.
+// What is printed for any bytes: the sheet of a scan record, or why there is none.
 mod page;
-mod record_sheet;
 
 pub use page::sheet;

@@ -10,10 +10,10 @@ use Rattle.arithmetic.specs.Magnitude.{Magnitude}
 use Rattle.arithmetic.proofs.Magnitude.{magnitude-negation}
 use Rattle.arithmetic.proofs.Order.{pos-≤ℤ}
 use Rattle.sine.specs.Bounds.{sineLimit, leastLatitudeSine}
-use Rattle.sine_tables.specs.Tables.{Q, S, F, G}
+use Rattle.sine_series.specs.Tables.{Q, S, F, G}
 use Rattle.sine.specs.Sine.{quarterSine, sineOf, cosineOf}
 use Rattle.sine.proofs.Quarters.{at-every-angle, in-first-quarter}
-use Rattle.sine_tables.proofs.TableRule.{leastOfS, s-entry, f-entry, g-entry}
+use Rattle.sine_series.proofs.TableRule.{leastOfS, s-entry, f-entry, g-entry}
 
 -- the sum of the two products before the floor, as a natural number
 unfoldable pub quarterSum : ℕ → ℕ

@@ -7,11 +7,11 @@ use Rattle.arithmetic.specs.Fraction.{Fraction, opposite}
 use Rattle.arithmetic.specs.Nearness.{Near}
 use Rattle.arithmetic.proofs.Nearness.{near-number, near-sum, near-product, near-floor, near-opposite}
 use Rattle.sine.specs.Bounds.{sineLimit, sineError}
-use Rattle.sine_tables.specs.Tables.{Q}
+use Rattle.sine_series.specs.Tables.{Q}
 use Rattle.sine.specs.Sine.{quarterSine, sineOf, cosineOf}
 use Rattle.sine.specs.ExactSine.{exactQuarterSine, exactSineOf, exactCosineOf}
-use Rattle.sine_tables.proofs.TableTest.{Entry}
-use Rattle.sine_tables.proofs.TableRule.{s-entry, f-entry, g-entry}
+use Rattle.sine_series.proofs.TableTest.{Entry}
+use Rattle.sine_series.proofs.TableRule.{s-entry, f-entry, g-entry}
 use Rattle.sine.proofs.Quarters.{at-every-angle}
 
 -- an entry is within half a unit

@@ -3,7 +3,7 @@
 use Prim.Native.Nat.{ℕ, _-_, _*_, _/_, _%_}
 use lib.IntN.{ℤ, pos, _+ℤ_}
 use Rattle.arithmetic.specs.Fraction.{Fraction, _⊕_, _⊗_, opposite}
-use Rattle.sine_tables.specs.Series.{sineSeries, cosineSeries}
+use Rattle.sine_series.specs.Series.{sineSeries, cosineSeries}
 use Rattle.sine.specs.Quarters.{byQuarters}
 
 unfoldable pub exactQuarterSine : ℕ → Fraction

@@ -2,7 +2,7 @@
 use Prim.Native.Nat.{ℕ, _-_, _/_, _%_}
 use lib.IntN.{ℤ, pos, negℤ, _+ℤ_, _*ℤ_}
 use Rattle.arithmetic.specs.Floor.{_÷_}
-use Rattle.sine_tables.specs.Tables.{Q, S, F, G}
+use Rattle.sine_series.specs.Tables.{Q, S, F, G}
 use Rattle.sine.specs.Quarters.{byQuarters}
 
 -- for t from 0 to 900,000: floor((S[a] x G[b] + S[900 - a] x F[b]) / Q), with a = t div 1,000 and b = t mod 1,000

@@ -3,8 +3,8 @@
 ghost use mathlib.Core.Path.{_≡_};
 ghost use Prim.Native.Nat.{_<_};
 ghost use lib.IntN.{pos};
-ghost use Rattle.sine_tables.specs.Tables.{Tabulates};
-ghost use Rattle.sine_tables.specs.Tables.{S as Tables·S, F as Tables·F, G as Tables·G};
+ghost use Rattle.sine_series.specs.Tables.{Tabulates};
+ghost use Rattle.sine_series.specs.Tables.{S as Tables·S, F as Tables·F, G as Tables·G};
 
 // Table S, the sines of whole tenths of a degree.
 pub fn coarse_sines() -> [u32; 901]

@@ -1,16 +1,15 @@
 // The placement of one gate. The answer is 0, with cell, X and Y written, or the refusal number, with the three as they came in. The
 // cell of a gate outside the grid is 4,294,967,295.
+use c_answers::answer_gate;
 use c_structs::GridNumbers;
 use c_structs::grid_of;
-use grid::Site;
-use placement::Placement;
+use limits::Site;
 use refusal::unsigned32;
-ghost use Rattle.refusal.specs.Answer.{numberIn, leftBy, Answers};
-ghost use Rattle.placement.specs.Gate.{placementAnswer, placedGate};
+ghost use Rattle.refusal.specs.Answer.{Answers};
+ghost use Rattle.placement.specs.Gate.{placedGate};
 ghost use Rattle.placement.specs.GateRefusal.{gateRefusal};
 ghost use Rattle.refusal.specs.Unsigned as spec;
-ghost use mathlib.Core.Path.{_≡_};
-ghost use Rattle.uldrevin.specs.LentNumbers.{lentGate};
+ghost use Rattle.c_answers.specs.LentNumbers.{lentGate};
 ghost use Rattle.c_structs.specs.Structs.{siteAt, gridAt, gridOf};
 
 #[no_mangle]
@@ -43,7 +42,7 @@ pub extern "C" fn uldrevin_place(
         latitude: site[0],
         longitude: site[1],
     };
-    answer(
+    answer_gate(
         placement::place(
             place,
             grid_of(numbers),
@@ -54,32 +53,4 @@ pub extern "C" fn uldrevin_place(
         x,
         y,
     )
-}
-
-// Writes a placement through the lent numbers.
-fn answer(placement: Placement, cell: &mut u32, x: &mut i64, y: &mut i64) -> u32
-    ensures { λ r. ⌜ r ≡ numberIn (placementAnswer placement) ⌝ }
-    ensures { λ r.
-        let gate = lentGate cell x y in
-        ⌜ gate .exit ≡ leftBy (gate .entry) (placementAnswer placement) ⌝ }
-{
-    match placement {
-        Placement::Inside {
-            cell: c,
-            x: at_x,
-            y: at_y,
-        } => {
-            *cell = c;
-            *x = at_x;
-            *y = at_y;
-            0
-        }
-        Placement::Outside { x: at_x, y: at_y } => {
-            *cell = 4294967295;
-            *x = at_x;
-            *y = at_y;
-            0
-        }
-        Placement::Refused(number) => number,
-    }
 }

@@ -1,21 +1,20 @@
 // The scan record. The answer is 0, with what is lent written, or the refusal number, with all that is lent as it came in.
+use c_answers::answer_head;
+use c_answers::answer_size;
+use c_answers::read_number;
 use c_structs::head_of;
-use c_structs::put_head;
-use record_reader::ReadScan;
-use record_writer::WrittenScan;
-ghost use mathlib.Core.Path.{_≡_};
 ghost use lib.ListN.{length};
-ghost use Rattle.refusal.specs.Answer.{numberIn, leftBy, Answers};
+ghost use Rattle.refusal.specs.Answer.{Answers};
 ghost use Rattle.scan.specs.Scan.{scanHeld};
-ghost use Rattle.record_reader.specs.RecordRead.{readAnswer, listsIn};
+ghost use Rattle.record_reader.specs.RecordRead.{listsIn};
 ghost use Rattle.record_reader.specs.FieldPart.{fieldPlace, fieldPart};
-ghost use Rattle.record_writer.specs.RecordWritten.{writtenAnswer, bufferWith};
-ghost use Rattle.record_writer.specs.RecordBytes.{recordOf};
+ghost use Rattle.record_writer.specs.RecordWritten.{bufferWith};
+ghost use Rattle.record_contents.specs.RecordBytes.{recordOf};
 ghost use Rattle.record_layout.specs.RecordPlaces.{headIn};
 ghost use Rattle.record_layout.specs.RecordRefusal.{headRefusal, readRefusal};
 ghost use Rattle.record_writer.specs.WriteRefusal.{writeRefusal};
-ghost use Rattle.uldrevin.specs.LentNumbers.{lentHead, lentScan, lentField, lentWritten};
-ghost use Rattle.c_structs.specs.Structs.{headOf, headNumbers, headLeft};
+ghost use Rattle.c_answers.specs.LentNumbers.{lentHead, lentScan, lentField, lentWritten};
+ghost use Rattle.c_structs.specs.Structs.{headOf, headNumbers};
 
 // ---- as read
 
@@ -90,41 +89,4 @@ pub extern "C" fn uldrevin_record_write(
         record_writer::write_scan(head, azimuths, values, qualities, buffer),
         size,
     )
-}
-
-// ---- of an answer
-
-fn read_number(answer: ReadScan) -> u32
-    ensures { λ r. ⌜ r ≡ numberIn (readAnswer answer) ⌝ }
-{
-    match answer {
-        ReadScan::Head(_) => 0,
-        ReadScan::Refused(number) => number,
-    }
-}
-
-fn answer_head(answer: ReadScan, scan: &mut [i64; 13]) -> u32
-    ensures { λ r. ⌜ r ≡ numberIn (readAnswer answer) ⌝ }
-    ensures { λ r. ⌜ now (scan .exit) ≡ headLeft (now (scan .entry)) (readAnswer answer) ⌝ }
-{
-    match answer {
-        ReadScan::Head(head) => {
-            put_head(head, scan);
-            0
-        }
-        ReadScan::Refused(number) => number,
-    }
-}
-
-fn answer_size(answer: WrittenScan, size: &mut u64) -> u32
-    ensures { λ r. ⌜ r ≡ numberIn (writtenAnswer answer) ⌝ }
-    ensures { λ r. ⌜ now (size .exit) ≡ leftBy (now (size .entry)) (writtenAnswer answer) ⌝ }
-{
-    match answer {
-        WrittenScan::Length(n) => {
-            *size = n as u64;
-            0
-        }
-        WrittenScan::Refused(number) => number,
-    }
 }

@@ -1,10 +1,9 @@
 // The whole scan. The answer is 0, with the lent lists written, or the refusal number, with all of them as they came in.
+use c_answers::remap_number;
 use c_structs::head_of;
-use remap::Remapped;
-ghost use mathlib.Core.Path.{_≡_};
-ghost use Rattle.refusal.specs.Answer.{numberIn, Answers};
+ghost use Rattle.refusal.specs.Answer.{Answers};
 ghost use Rattle.scan.specs.LentLists.{lentLists};
-ghost use Rattle.remap.specs.Remap.{remapAnswer, filledLists};
+ghost use Rattle.remap.specs.Remap.{filledLists};
 ghost use Rattle.scan.specs.Scan.{scanHeld};
 ghost use Rattle.scan.specs.ScanRefusal.{refusalFor};
 ghost use Rattle.c_structs.specs.Structs.{headOf};
@@ -28,7 +27,7 @@ pub extern "C" fn uldrevin_remap(
         ⌜ Answers (refusalFor given (lists .entry)) (filledLists given) lists r ⌝ }
 {
     let head = head_of(scan);
-    number_of(remap::remap(
+    remap_number(remap::remap(
         head,
         azimuths,
         values,
@@ -40,13 +39,4 @@ pub extern "C" fn uldrevin_remap(
         means,
         cell_qualities,
     ))
-}
-
-fn number_of(answer: Remapped) -> u32
-    ensures { λ r. ⌜ r ≡ numberIn (remapAnswer answer) ⌝ }
-{
-    match answer {
-        Remapped::Done => 0,
-        Remapped::Refused(number) => number,
-    }
 }

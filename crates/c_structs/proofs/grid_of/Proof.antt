@@ -1,7 +1,7 @@
 -- `c_structs::grid_of` meets its contract, kind by kind. Assumes nothing.
 use mathlib.Core.Path.{ap, _∙_}
 use native.Mathlib.Omega.{arith}
-use Rattle.grid.specs.declared.kinds.Grid.the-variants.{Radolan, Hrap}
+use Rattle.limits.specs.declared.grid.Grid.the-variants.{Radolan, Hrap}
 use Rattle.refusal.specs.Unsigned.{unsigned32}
 use Rattle.c_structs.specs.Structs.{gridOf, noGrid}
 use Rattle.c_structs.proofs.StructNumbers.{word-back, is-number, is-other-number}

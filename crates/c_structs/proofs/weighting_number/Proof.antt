@@ -1,6 +1,6 @@
 -- `c_structs::weighting_number` meets its contract. Assumes nothing.
 use mathlib.Core.Path.{sym, ap}
-use Rattle.record_writer.specs.RecordBytes.{weightingByte}
+use Rattle.record_contents.specs.RecordBytes.{weightingByte}
 use borrow.Author.Needs.{needs}
 use Rattle.c_structs.proofs.weighting_number.Statement.{statement}
 use Rattle.c_structs.proofs.weighting_number.Tie as tie

@@ -5,7 +5,7 @@ use native.Mathlib.Omega.{arith}
 use borrow.Author.Needs.{needs}
 use Rattle.arithmetic.proofs.Machine.{word-pos}
 use Rattle.sine.specs.Bounds.{sineLimit}
-use Rattle.sine_tables.specs.Tables.{Q}
+use Rattle.sine_series.specs.Tables.{Q}
 use Rattle.sine.proofs.SineBounds.{quarterSum, quarter-sum-read, quarter-sum-most, quarter-natural}
 use Rattle.sine.proofs.quarter_sine.Statement.{statement}
 use Rattle.sine.proofs.quarter_sine.Tie as tie

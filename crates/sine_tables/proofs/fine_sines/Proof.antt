@@ -1,8 +1,8 @@
 -- `sine_tables::fine_sines` meets its contract: each number of the code's table rounds Q times the series. Assumes nothing.
 use Prim.Native.Nat.{ℕ}
-use Rattle.sine_tables.specs.Series.{sineSeries}
-use Rattle.sine_tables.specs.Tables.{F}
-use Rattle.sine_tables.proofs.TableTest.{rounds, tabulates}
+use Rattle.sine_series.specs.Series.{sineSeries}
+use Rattle.sine_series.specs.Tables.{F}
+use Rattle.sine_series.proofs.TableTest.{rounds, tabulates}
 use Rattle.sine_tables.proofs.fine_sines.Statement.{statement}
 use Rattle.sine_tables.proofs.fine_sines.Tie as tie
 

@@ -4,7 +4,7 @@ use borrow.Author.Needs.{needs}
 use mir.Facts.{toZ-ofZ}
 use Rattle.arithmetic.proofs.Machine.{fits64}
 use Rattle.grid.specs.Window.{windowOf}
-use Rattle.grid.proofs.Accepted.{AcceptedRadolan, AcceptedHrap, accepted-radolan, accepted-hrap, hrap-distance, hrap-corner}
+use Rattle.limits.proofs.Accepted.{AcceptedRadolan, AcceptedHrap, accepted-radolan, accepted-hrap, hrap-distance, hrap-corner}
 use Rattle.grid.proofs.window.window_of.Statement.{statement}
 use Rattle.grid.proofs.window.window_of.Tie as tie
 

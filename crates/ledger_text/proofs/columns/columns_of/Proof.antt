@@ -1,7 +1,7 @@
 -- `ledger_text::columns::columns_of` meets its contract. Assumes nothing.
 use mathlib.Core.Path.{sym, ap}
 use Rattle.grid.specs.Window.{windowOf}
-use Rattle.grid.specs.declared.kinds.Grid.{Grid}
+use Rattle.limits.specs.declared.grid.Grid.{Grid}
 use borrow.Author.Needs.{needs}
 use Rattle.ledger_text.proofs.columns.columns_of.Statement.{statement}
 use Rattle.ledger_text.proofs.columns.columns_of.Tie as tie

@@ -2,7 +2,7 @@
 use borrow.Author.Needs.{needs}
 use Rattle.projection.specs.Position.{positionOf}
 use Rattle.placement.specs.Survey.{surveyOf, surveyed}
-use Rattle.grid.proofs.Accepted.{accepted-range}
+use Rattle.limits.proofs.Accepted.{accepted-range}
 use Rattle.projection.proofs.GateTerms.{ray-limits}
 use Rattle.placement.proofs.SurveyLimits.{surveyed-of}
 use Rattle.placement.proofs.gate.accepted_place.Statement.{statement}

@@ -9,7 +9,7 @@ use Rattle.placement.specs.declared.gate.Placement.{Placement}
 use Rattle.placement.specs.declared.gate.Placement.the-variants.{Refused}
 use Rattle.placement.specs.Gate.{unlessRefused, placementOf}
 use Rattle.placement.specs.GateNearness.{PositionWithin}
-use Rattle.grid.specs.Accepted.{rangeAccepted, siteAccepted, gridAccepted, azimuthAccepted}
+use Rattle.limits.specs.Accepted.{rangeAccepted, siteAccepted, gridAccepted, azimuthAccepted}
 use Rattle.refusal.specs.Checks.{firstRefusal}
 use Rattle.placement.specs.GateRefusal.{gateRefusal}
 use Rattle.placement.proofs.GateNear.{located-within}

@@ -6,7 +6,7 @@ use Rattle.arithmetic.proofs.Machine.{fits64}
 use Rattle.projection.specs.Position.{siteTerms}
 use Rattle.grid.specs.Sphere.{sphereOf}
 use Rattle.placement.specs.Survey.{surveyOf}
-use Rattle.grid.proofs.Accepted.{accepted-site}
+use Rattle.limits.proofs.Accepted.{accepted-site}
 use Rattle.projection.proofs.GateTerms.{good-sphere}
 use Rattle.placement.proofs.survey.survey_of.Statement.{statement}
 use Rattle.placement.proofs.survey.survey_of.Tie as tie

@@ -10,7 +10,7 @@ use mir.Val.{toZ, ofZ}
 use Rattle.arithmetic.specs.Magnitude.{Magnitude}
 use Rattle.arithmetic.proofs.Machine.{fits64, fits64-floor, fits-unsigned, fits-natural, read-back}
 use Rattle.arithmetic.proofs.Magnitude.{magnitude-weaken, magnitude-product, magnitude-negation}
-use Rattle.sine_tables.specs.Tables.{Q}
+use Rattle.sine_series.specs.Tables.{Q}
 use Rattle.projection.specs.declared.position.Position.{Position}
 use Rattle.projection.specs.Position.{w, e, n, m, u, v, divisor, X, Y, positionBy}
 use Rattle.projection.proofs.PositionBounds.{w-limit, e-limit, n-limit, m-limit, u-limit, v-limit, divisor-positive, divisor-most}

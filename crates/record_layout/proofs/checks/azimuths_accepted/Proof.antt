@@ -6,7 +6,7 @@ use borrow.Author.Needs.{needs}
 use borrow.Author.Tests.{not-true, not-false}
 use lib.ListN.{drop}
 use Rattle.arithmetic.specs.Places.{allOf}
-use Rattle.grid.specs.Accepted.{azimuthAccepted}
+use Rattle.limits.specs.Accepted.{azimuthAccepted}
 use Rattle.big_endian.specs.BigEndian.{numbersAt}
 use Rattle.record_layout.specs.RecordPlaces.{azimuthsIn}
 use Rattle.big_endian.proofs.ReadNumbers.{tested-step, tested-stop, tested-end}

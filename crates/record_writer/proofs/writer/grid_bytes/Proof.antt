@@ -2,10 +2,10 @@
 use mathlib.Core.Path.{sym, ap, _∙_}
 use borrow.Author.Needs.{needs}
 use lib.ListN.{length}
-use Rattle.grid.specs.declared.kinds.Grid.{Grid}
-use Rattle.grid.specs.declared.kinds.Grid.the-variants.{Radolan, Hrap}
-use Rattle.record_writer.specs.RecordBytes.{gridBytes}
-use Rattle.record_writer.proofs.ContentLengths.{gridLengthOf, grid-length}
+use Rattle.limits.specs.declared.grid.Grid.{Grid}
+use Rattle.limits.specs.declared.grid.Grid.the-variants.{Radolan, Hrap}
+use Rattle.record_contents.specs.RecordBytes.{gridBytes}
+use Rattle.record_contents.proofs.ContentLengths.{gridLengthOf, grid-length}
 use Rattle.record_writer.proofs.writer.grid_bytes.Statement.{statement}
 use Rattle.record_writer.proofs.writer.grid_bytes.Tie as tie
 

@@ -5,8 +5,8 @@ use native.Mathlib.Omega.{arith}
 use borrow.Author.Needs.{needs}
 use Rattle.scan.specs.Scan.{scanHeld}
 use Rattle.record_writer.specs.RecordRoom.{recordLength}
-use Rattle.record_writer.proofs.ContentLengths.{grid-length-most}
-use Rattle.record_writer.proofs.WrittenBytes.{record-stored}
+use Rattle.record_contents.proofs.ContentLengths.{grid-length-most}
+use Rattle.record_contents.proofs.WrittenBytes.{record-stored}
 use Rattle.record_writer.proofs.writer.put_record.Statement.{statement}
 use Rattle.record_writer.proofs.writer.put_record.Tie as tie
 

@@ -2,7 +2,7 @@
 use native.Mathlib.Omega.{arith}
 use borrow.Author.Needs.{needs}
 use Rattle.record_writer.specs.RecordRoom.{recordLength}
-use Rattle.record_writer.proofs.ContentLengths.{grid-length-most}
+use Rattle.record_contents.proofs.ContentLengths.{grid-length-most}
 use Rattle.record_writer.proofs.writer.record_length.Statement.{statement}
 use Rattle.record_writer.proofs.writer.record_length.Tie as tie
 

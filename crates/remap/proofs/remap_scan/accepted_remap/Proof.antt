@@ -3,11 +3,11 @@ use mathlib.Core.Path.{_≡_, ap, _∙_}
 use Prim.Native.Nat.{ℕ, _≤_}
 use native.Mathlib.Omega.{arith}
 use lib.ListN.{getD}
-use Rattle.cells.specs.LentSums.{Sums, Cells}
+use Rattle.tally.specs.LentSums.{Sums, Cells}
 use Rattle.scan.specs.LentLists.{Lists, listsHeld}
 use Rattle.remap.specs.Remap.{filledLists}
 use Rattle.scan.specs.Scan.{Scan, scanHeld}
-use Rattle.cells.specs.Tally.{cleared, addedSums}
+use Rattle.tally.specs.Tally.{cleared, addedSums}
 use Rattle.scan.proofs.AcceptedScan.{AcceptedScan, accepted-scan}
 use Rattle.remap.proofs.AcceptedRemap.{is-surveyed, rays-span, ledger-is, addable, sums-are, publishable, cells-are}
 use borrow.Author.Needs.{needs}

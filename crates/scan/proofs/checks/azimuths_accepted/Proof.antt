@@ -6,7 +6,7 @@ use borrow.Author.Tests.{not-true, not-false}
 use lib.ListN.{length, drop}
 use Rattle.arithmetic.specs.Places.{allOf}
 use Rattle.arithmetic.proofs.Places.{all-step, all-stop, all-end}
-use Rattle.grid.specs.Accepted.{azimuthAccepted}
+use Rattle.limits.specs.Accepted.{azimuthAccepted}
 use Rattle.scan.proofs.checks.azimuths_accepted.Statement.{statement}
 use Rattle.scan.proofs.checks.azimuths_accepted.Tie as tie
 

@@ -6,7 +6,7 @@ use Prim.Native.Nat.{ℕ}
 use borrow.Author.Needs.{needs}
 use borrow.Author.Tests.{not-true, not-false}
 use Rattle.refusal.specs.Checks.{inRange, _unless_, firstRefusal}
-use Rattle.grid.specs.Accepted.{siteAccepted, gridAccepted}
+use Rattle.limits.specs.Accepted.{siteAccepted, gridAccepted}
 use Rattle.refusal.proofs.RangeBounds.{range-bounds}
 use Rattle.scan.specs.ScanRefusal.{centresAccepted, scanNumber}
 use Rattle.scan.proofs.checks.scan_refusal.Statement.{statement}

@@ -1,7 +1,7 @@
 -- `scan::head::cells_of` meets its contract. Assumes nothing.
 use mathlib.Core.Path.{sym, ap, _∙_}
 use Prim.Native.Nat.{_*_}
-use Rattle.grid.specs.declared.kinds.Grid.{Grid}
+use Rattle.limits.specs.declared.grid.Grid.{Grid}
 use Rattle.grid.specs.Window.{windowOf}
 use Rattle.scan.specs.Scan.{cellsOf}
 use borrow.Author.Needs.{needs}

@@ -4,8 +4,8 @@ use Prim.Native.Nat.{ℕ}
 use lib.IntN.{pos}
 use lib.ListN.{getD}
 use mir.Facts.{toZ-ofZ}
-use Rattle.grid.specs.declared.kinds.Grid.{Grid}
-use Rattle.grid.specs.declared.site.Site.{Site}
+use Rattle.limits.specs.declared.grid.Grid.{Grid}
+use Rattle.limits.specs.declared.site.Site.{Site}
 use Rattle.refusal.specs.Answer.{Answer, answered, numberIn, leftBy}
 use Rattle.placement.specs.Gate.{PlacedGate, placementAnswer, placedGate}
 use Rattle.placement.specs.GateRefusal.{gateRefusal}
@@ -81,13 +81,13 @@ unsigned32-requires-2 c κs = search needs
 place-requires : tie.Need-place-requires
 place-requires c κs = search needs
 
-answer-requires : tie.Need-answer-requires
-answer-requires c κs = search needs
+answer-gate-requires : tie.Need-answer-gate-requires
+answer-gate-requires c κs = search needs
 
 returns : tie.Need-returns
 returns c = let told = told-numbers (c .before .before .before .before) in record {
-  the-number = c .answer .ensures .0 ∙ ap numberIn told ∙ number-in _ _;
-  the-lent = c .answer .ensures .1 ∙ ap (leftBy _) told ∙ left-by _ _ _;
+  the-number = c .answer-gate .ensures .0 ∙ ap numberIn told ∙ number-in _ _;
+  the-lent = c .answer-gate .ensures .1 ∙ ap (leftBy _) told ∙ left-by _ _ _;
 }
 
 pub uldrevin-place-spec : {M : Type 1} → statement M
@@ -106,5 +106,5 @@ uldrevin-place-spec =
     unsigned32-requires
     unsigned32-requires-2
     place-requires
-    answer-requires
+    answer-gate-requires
     returns)

@@ -4,7 +4,7 @@ use Prim.Native.Nat.{ℕ, zero, suc}
 use Rattle.refusal.specs.Answer.{numberIn, afterwards}
 use Rattle.refusal.proofs.AnswerLaws.{number-in}
 use Rattle.c_structs.specs.Structs.{headLeft}
-use Rattle.uldrevin.specs.LentNumbers.{ScanNumbers}
+use Rattle.c_answers.specs.LentNumbers.{ScanNumbers}
 use Rattle.c_structs.proofs.StructNumbers.{head-left}
 use borrow.Author.Needs.{needs}
 use Rattle.uldrevin.proofs.record.uldrevin_record_read.Statement.{statement}

@@ -3,7 +3,7 @@ use mathlib.Core.Path.{_≡_, refl, ap, _∙_}
 use Prim.Native.Nat.{ℕ, zero, suc}
 use Rattle.refusal.specs.Answer.{numberIn, leftBy, afterwards}
 use Rattle.refusal.proofs.AnswerLaws.{number-in, left-by}
-use Rattle.uldrevin.specs.LentNumbers.{WrittenNumbers}
+use Rattle.c_answers.specs.LentNumbers.{WrittenNumbers}
 use borrow.Author.Needs.{needs}
 use Rattle.uldrevin.proofs.record.uldrevin_record_write.Statement.{statement}
 use Rattle.uldrevin.proofs.record.uldrevin_record_write.Tie as tie

@@ -12,8 +12,8 @@ head-of-requires c κs = search needs
 remap-requires : tie.Need-remap-requires
 remap-requires c κs = search needs
 
-number-of-requires : tie.Need-number-of-requires
-number-of-requires c κs = search needs
+remap-number-requires : tie.Need-remap-number-requires
+remap-number-requires c κs = search needs
 
 same-length : tie.Need-same-length
 same-length c = search needs
@@ -35,7 +35,7 @@ same-length-6 c = search needs
 
 returns : tie.Need-returns
 returns c = let told = rw (c .before .before .before .before .before .before .before .before .before .before .before .before .before .before .before .before .before .before .before .before .head-of .ensures) at (c .before .before .before .before .before .before .before .before .before .before .before .before .before .remap .ensures) in record {
-  the-number = c .number-of .ensures ∙ ap numberIn (told .the-answer) ∙ number-in _ _;
+  the-number = c .remap-number .ensures ∙ ap numberIn (told .the-answer) ∙ number-in _ _;
   the-lent = told .the-lists;
 }
 
@@ -45,7 +45,7 @@ uldrevin-remap-spec =
     (tie.spec
     head-of-requires
     remap-requires
-    number-of-requires
+    remap-number-requires
     same-length
     same-length-2
     same-length-3

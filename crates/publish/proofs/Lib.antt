@@ -1,0 +1,2 @@
+pub mod MeanBetween
+pub mod PublishedRange

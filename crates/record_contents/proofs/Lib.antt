@@ -1,0 +1,3 @@
+pub mod ContentLengths
+pub mod WrittenBytes
+pub mod SignedWords

@@ -1,0 +1,2 @@
+pub mod SheetRoom
+pub mod GoodSheet

@@ -1,0 +1,5 @@
+pub mod TallyTurn
+pub mod TallyWidth
+pub mod TallySplit
+pub mod TallyFromNothing
+pub mod CountTotal

@@ -1,0 +1,65 @@
+-- No count or sum passes its width. Assumes nothing.
+use mathlib.Core.Path.{_≡_, refl}
+use mathlib.Core.Bool.{Bool, true, false, cond}
+use mathlib.Core.List.{List}
+use Prim.Native.Nat.{ℕ, _*_, _^_, _<_, _≤_, zero-le}
+use native.Mathlib.Nat.{le-refl, le-trans, mul-le-mul}
+use native.Mathlib.Omega.{arith}
+use borrow.Author.Tests.{eqb-false, not-true}
+use lib.Dec.{eqb}
+use lib.ListN.{length, getD}
+use Rattle.tally.specs.Gates.{isMeasured, echoOf, weighed}
+use Rattle.tally.specs.Tally.{sumOver, countOf, qualitySumOf, valueSumOf}
+use Rattle.tally.specs.declared.gates.Weighting.{Weighting}
+use Rattle.tally.specs.declared.gates.Weighting.the-variants.{Plain, ByQuality}
+use Rattle.tally.proofs.TallyTurn.{sum-over-most}
+
+-- ---- what one measured gate gives at most
+
+pub echo-most : (value : ℕ) → value ≤ 65535 → isMeasured value ≡ true → echoOf value ≤ 65533
+unfolding isMeasured echoOf
+echo-most value h m = go (eqb value 65534) refl
+  where
+    go : (t : Bool) → eqb value 65534 ≡ t → cond t 0 value ≤ 65533
+    go true e = zero-le
+    go false e = omega (arith, eqb-false value 65534 e, eqb-false value 65535 (not-true (eqb value 65535) m))
+
+pub weighed-most : (weighting : Weighting) (value quality : ℕ) → value ≤ 65535 → quality ≤ 100 → isMeasured value ≡ true → weighed weighting value quality ≤ 65533 * 100
+unfolding weighed
+weighed-most Plain value quality h i m = omega (arith, echo-most value h m)
+weighed-most ByQuality value quality h i m = mul-le-mul (echo-most value h m) i
+
+-- ---- what all gates of a scan give at most
+
+-- at most 720,000 gates, each with a 16-bit value and a quality of at most 100
+pub record GatesMost (ledger values qualities : List ℕ) : Type 0 where
+  pub gates-most : length ledger ≤ 720000
+  pub values-most : (k : ℕ) → getD values k 0 ≤ 65535
+  pub qualities-most : (k : ℕ) → getD qualities k 0 ≤ 100
+
+module _ {ledger values qualities : List ℕ} (g : GatesMost ledger values qualities) where
+  all-most : (share : ℕ → ℕ → ℕ) (b cell : ℕ) → ((k : ℕ) → isMeasured (getD values k 0) ≡ true → share (getD values k 0) (getD qualities k 0) ≤ b) → sumOver ledger values qualities share (length ledger) cell ≤ 720000 * b
+  all-most share b cell h = le-trans (sum-over-most ledger values qualities share b (length ledger) cell h) (mul-le-mul (g .gates-most) (le-refl b))
+
+  pub count-most : (cell : ℕ) → countOf ledger values qualities cell ≤ 720000
+  unfolding countOf
+  count-most cell = all-most (λ value quality. 1) 1 cell (λ k m. le-refl 1)
+
+  pub quality-sum-most : (cell : ℕ) → qualitySumOf ledger values qualities cell ≤ 72000000
+  unfolding qualitySumOf
+  quality-sum-most cell = all-most (λ value quality. quality) 100 cell (λ k m. g .qualities-most k)
+
+  pub value-sum-most : (weighting : Weighting) (cell : ℕ) → valueSumOf ledger values qualities weighting cell ≤ 720000 * 65533 * 100
+  unfolding valueSumOf
+  value-sum-most weighting cell =
+      all-most (weighed weighting) (65533 * 100) cell (λ k m. weighed-most weighting _ _ (g .values-most k) (g .qualities-most k) m)
+
+  -- so each fits the type that the code has for it
+  pub count-fits : (cell : ℕ) → countOf ledger values qualities cell < 2 ^ 32
+  count-fits cell = omega (arith, count-most cell)
+
+  pub quality-sum-fits : (cell : ℕ) → qualitySumOf ledger values qualities cell < 2 ^ 32
+  quality-sum-fits cell = omega (arith, quality-sum-most cell)
+
+  pub value-sum-fits : (weighting : Weighting) (cell : ℕ) → valueSumOf ledger values qualities weighting cell < 2 ^ 64
+  value-sum-fits weighting cell = omega (arith, value-sum-most weighting cell)

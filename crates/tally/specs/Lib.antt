@@ -1,0 +1,4 @@
+pub mod Gates
+pub mod LentSums
+pub mod Tally
+pub mod TallyRoom

@@ -1,0 +1,58 @@
+-- Document 01, "Ledger and cells": a cell's count and sums, over the measured gates whose ledger entry names it. Assumes nothing.
+use mathlib.Core.Bool.{Bool, _&&_, cond}
+use mathlib.Core.List.{List}
+use Prim.Native.Nat.{ℕ, _+_}
+use lib.Dec.{eqb}
+use lib.ListN.{length, getD, replicate}
+use Rattle.arithmetic.specs.Places.{table, sumTo}
+use Rattle.tally.specs.declared.gates.Weighting.{Weighting}
+use Rattle.tally.specs.LentSums.{Sums}
+use Rattle.tally.specs.Gates.{isMeasured, weighed}
+
+module _ (ledger values qualities : List ℕ) where
+  -- gate k is measured and its entry names the cell
+  unfoldable pub contributes : ℕ → ℕ → Bool
+  contributes cell k = eqb (getD ledger k 0) cell && isMeasured (getD values k 0)
+
+  -- the sum, over the first n gates that contribute to the cell, of what the share gives for value and quality
+  unfoldable pub sumOver : (ℕ → ℕ → ℕ) → ℕ → ℕ → ℕ
+  sumOver share n cell =
+      sumTo (λ k. cond (contributes cell k) (share (getD values k 0) (getD qualities k 0)) 0) n
+
+  unfoldable pub countOf : ℕ → ℕ
+  countOf cell = sumOver (λ value quality. 1) (length ledger) cell
+
+  unfoldable pub qualitySumOf : ℕ → ℕ
+  qualitySumOf cell = sumOver (λ value quality. quality) (length ledger) cell
+
+  unfoldable pub valueSumOf : Weighting → ℕ → ℕ
+  valueSumOf weighting cell = sumOver (weighed weighting) (length ledger) cell
+
+-- ---- of so many cells: tallies start from nothing
+
+unfoldable pub talliedSums : Weighting → List ℕ → List ℕ → List ℕ → ℕ → Sums
+talliedSums weighting ledger values qualities cells = record {
+  counts = table (countOf ledger values qualities) cells;
+  qualitySums = table (qualitySumOf ledger values qualities) cells;
+  valueSums = table (valueSumOf ledger values qualities weighting) cells;
+}
+
+unfoldable pub cleared : Sums → Sums
+cleared sums = record {
+  counts = replicate (length (sums .counts)) 0;
+  qualitySums = replicate (length (sums .qualitySums)) 0;
+  valueSums = replicate (length (sums .valueSums)) 0;
+}
+
+-- ---- added onto what the sums hold
+
+-- each number with its cell's share added
+unfoldable pub added : (ℕ → ℕ) → List ℕ → List ℕ
+added share held = table (λ cell. getD held cell 0 + share cell) (length held)
+
+unfoldable pub addedSums : Weighting → List ℕ → List ℕ → List ℕ → Sums → Sums
+addedSums weighting ledger values qualities sums = record {
+  counts = added (countOf ledger values qualities) (sums .counts);
+  qualitySums = added (qualitySumOf ledger values qualities) (sums .qualitySums);
+  valueSums = added (valueSumOf ledger values qualities weighting) (sums .valueSums);
+}
