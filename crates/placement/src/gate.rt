@@ -39,8 +39,8 @@ pub enum Placement {
     Refused(u32),
 }
 
-// Takes any site, grid, azimuth and range whatever. It answers inside, outside or refused, with document 01's numbers. Demand 3: whenever the answer is a position, X and Y each lie within 50
-// centimetres of the exact ones.
+// Takes any site, grid, azimuth and range whatever. It answers inside, outside or refused, with document 01's numbers. Demand 3: whenever
+// the answer is a position, X and Y each lie within 50 centimetres of the exact ones.
 pub fn place(site: Site, grid: Grid, azimuth: u32, range: u32) -> Placement
     ensures rule { λ r. ⌜ r ≡ placementOf site grid azimuth range ⌝ }
     ensures numbers { λ r. ⌜ placementAnswer r ≡ answered (gateRefusal site grid azimuth range) (placedGate site grid azimuth range) ⌝ }

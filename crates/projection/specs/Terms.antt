@@ -1,6 +1,6 @@
 -- What the position asks of the eight numbers and of K, so that no product leaves 64 bits and the divisor is positive. Every
 -- accepted site, ray and range meets it. Assumes nothing.
-use Prim.Native.Nat.{ℕ, _≤_}
+use Prim.Native.Nat.{ℕ}
 use lib.IntN.{ℤ, pos}
 use lib.Signed.{_≤ℤ_}
 use Rattle.arithmetic.specs.Magnitude.{Magnitude}

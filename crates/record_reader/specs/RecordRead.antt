@@ -1,7 +1,7 @@
 -- What the reader answers and leaves in the lent lists. Assumes nothing.
 use mathlib.Core.List.{List}
 use mathlib.Core.Path.{_≡_}
-use Prim.Native.Nat.{ℕ, _-_}
+use Prim.Native.Nat.{ℕ}
 use denote.Triple.Both.{Both}
 use Rattle.refusal.specs.Answer.{Answer, gives, refuses, answered, afterwards}
 use Rattle.scan.specs.declared.head.ScanHead.{ScanHead}

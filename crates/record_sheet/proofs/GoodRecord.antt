@@ -21,7 +21,7 @@ use Rattle.remap.specs.declared.remap_scan.Remapped.{Remapped}
 use Rattle.tally.specs.Tally.{talliedSums}
 use Rattle.scan_laws.specs.Placed.{placedOf}
 use Rattle.scan_laws.proofs.PlacedTotal.{placed-total}
-use Rattle.scan.proofs.AcceptedScan.{AcceptedLengths, accepted-lengths, lengths-exact, AcceptedNumbers, window-size}
+use Rattle.scan.proofs.AcceptedScan.{AcceptedLists, AcceptedLengths, accepted-lengths, exact-for-another, AcceptedNumbers, window-size}
 use Rattle.record_reader.specs.declared.reader.ReadScan.{ReadScan}
 use Rattle.big_endian.specs.BigEndian.{numbersAt}
 use Rattle.record_layout.specs.RecordPlaces.{raysIn, gatesIn, headIn, azimuthsIn, valuesIn, qualitiesIn, scanIn}
@@ -88,23 +88,12 @@ module _ {bytes : List ℕ} (scan : Scan) (lists : Lists) (s : Sized bytes (scan
       let read = filled-is to-fill no-refusal (r .the-lists) in
       λ i. record { head = s .is-head i; azimuths = read i .azimuths; values = read i .values; qualities = read i .qualities }
 
+  own-lists : AcceptedLists (headIn bytes) (length (azimuthsIn bytes)) (length (valuesIn bytes)) (length (qualitiesIn bytes))
+  own-lists = record { azimuths-length = azimuths-length bytes; values-length = values-length bytes; qualities-length = qualities-length bytes }
+
   not-refused : refusalFor (scanIn bytes) lists ≡ 0
-  unfolding scanIn refusalFor listsExact headRefusal
-  not-refused =
-      let gates = ap gatesOf (s .is-head) in
-      let cells = ap cellsOf (s .is-head) in
-      let known : AcceptedLengths (headIn bytes) (lengthsOf (scanIn bytes) lists) = record {
-        azimuths-length = azimuths-length bytes;
-        values-length = values-length bytes;
-        qualities-length = qualities-length bytes;
-        ledger-length = lengths .ledger-length ∙ gates;
-        counts-length = lengths .counts-length ∙ cells;
-        quality-sums-length = lengths .quality-sums-length ∙ cells;
-        value-sums-length = lengths .value-sums-length ∙ cells;
-        means-length = lengths .means-length ∙ cells;
-        cell-qualities-length = lengths .cell-qualities-length ∙ cells;
-      } in
-      rw (lengths-exact (headIn bytes) _ known) (accepted-record bytes true (s .accepted) .number)
+  unfolding scanIn refusalFor headRefusal
+  not-refused = rw (exact-for-another scan (scanIn bytes) lists (s .is-head) own-lists exact) (accepted-record bytes true (s .accepted) .number)
 
   pub remapped : {given : Scan} {after : Lists} {answer : Remapped} → given ≡ scanIn bytes → Remaps given (record { entry = lists; exit = after }) answer → after ≡ filledLists (scanIn bytes)
   remapped e r = filled-is lists not-refused (rw e at (r .the-lists))

@@ -1,7 +1,7 @@
 -- A number within limits, as bounds. Assumes nothing.
 use mathlib.Core.Path.{_≡_, refl, sym, subst}
 use mathlib.Core.Bool.{true}
-use Prim.Native.Nat.{ℕ, suc, _+_, _≤_, suc-le-suc}
+use Prim.Native.Nat.{ℕ, suc, _≤_, suc-le-suc}
 use borrow.Author.Tests.{leb-true}
 use lib.Dec.{T, leb}
 use lib.IntN.{ℤ, pos, negsuc}

@@ -1,9 +1,10 @@
 -- What is accepted of a scan, as bounds of its numbers; and a scan that is not refused is accepted. Assumes nothing.
-use mathlib.Core.Path.{_≡_, refl, sym, _∙_}
+use mathlib.Core.Path.{_≡_, refl, sym, ap, _∙_}
 use mathlib.Core.Bool.{Bool, true, false, _&&_}
 use Prim.Native.Nat.{ℕ, _≤_}
 use borrow.Author.Tests.{eqb-true, eq-eqb}
 use lib.Dec.{eqb}
+use lib.ListN.{length}
 use Rattle.arithmetic.specs.Places.{allOf}
 use Rattle.arithmetic.proofs.Test.{and-true}
 use Rattle.limits.specs.declared.grid.Grid.{Grid}
@@ -118,6 +119,25 @@ lengths-exact head given known =
     let lists = sym (by-last-list head (given .azimuths) (given .values) (given .qualities) (known .azimuths-length) (known .values-length)) ∙ eq-eqb _ _ (known .qualities-length) in
     sym (by-last-length head given lists (known .ledger-length) (known .counts-length) (known .quality-sums-length) (known .value-sums-length) (known .means-length))
     ∙ eq-eqb _ _ (known .cell-qualities-length)
+
+-- lent lists that are exact for one scan are so for another with the same head, whose own lists are exact
+pub exact-for-another : (scan other : Scan) (lists : Lists) → scan .head ≡ other .head → AcceptedLists (other .head) (length (other .azimuths)) (length (other .values)) (length (other .qualities)) → listsExact scan lists ≡ true → listsExact other lists ≡ true
+unfolding listsExact
+exact-for-another scan other lists same own exact =
+    let known = accepted-lengths (scan .head) (lengthsOf scan lists) exact in
+    let gates = ap gatesOf same in
+    let cells = ap cellsOf same in
+    lengths-exact (other .head) (lengthsOf other lists) (record {
+      azimuths-length = own .azimuths-length;
+      values-length = own .values-length;
+      qualities-length = own .qualities-length;
+      ledger-length = known .ledger-length ∙ gates;
+      counts-length = known .counts-length ∙ cells;
+      quality-sums-length = known .quality-sums-length ∙ cells;
+      value-sums-length = known .value-sums-length ∙ cells;
+      means-length = known .means-length ∙ cells;
+      cell-qualities-length = known .cell-qualities-length ∙ cells;
+    })
 
 -- what a scan without a refusal has, its lists taken as tested
 pub record AcceptedNumbers (head : ScanHead) (lengths azimuths qualities : Bool) : Type 0 where
