@@ -35,6 +35,14 @@ fits64-floor {z} m f = sfits-le (mag-shr z m) f
 pub read-back : {z y : ℤ} → z ≡ y → SFits w64 y → toZ w64 (ofZ w64 z) ≡ y
 read-back {z} {y} e f = ap (λ (x : ℤ). toZ w64 (ofZ w64 x)) e ∙ toZ-ofZ w64 y f
 
+-- a signed number is read back from its word
+pub word-back : (z : ℤ) → mag z < 9223372036854775808 → toZ w64 (ofZ w64 z) ≡ z
+word-back z h = toZ-ofZ w64 z (record { sfits = h })
+
+-- so is what a call answers, where that is y
+pub read-result : {z y : ℤ} → mag z < 9223372036854775808 → z ≡ y → toZ w64 (ofZ w64 z) ≡ y
+read-result {z} h e = word-back z h ∙ e
+
 -- a natural number below 2^63 is its own word
 pub word-pos : {n : ℕ} → n < 9223372036854775808 → toZ w64 n ≡ pos n
 word-pos {n} h = toZ-pos w64 n h

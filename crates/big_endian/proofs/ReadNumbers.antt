@@ -9,10 +9,8 @@ use borrow.Author.Tests.{lt-ltb, le-ltb}
 use lib.Dec.{ltb}
 use lib.IntN.{ℤ, pos, negsuc}
 use lib.ListN.{length, getD, drop}
-use lib.Signed.{mag}
 use mir.Syntax.{w64}
-use mir.Val.{SFits, toZ, ofZ}
-use mir.ValLaws.{toZ-ofZ}
+use mir.Val.{SFits}
 use Rattle.arithmetic.specs.Places.{allOf}
 use Rattle.arithmetic.proofs.Places.{table-at, all-step, all-stop, all-end}
 use Rattle.arithmetic.proofs.Machine.{fits-pos, fits-negsuc}
@@ -67,7 +65,3 @@ signed-fits span n h i = go (ltb n (span / 2))
     go : (t : Bool) → SFits w64 (cond t (pos n) (negsuc (span - suc n)))
     go true = fits-pos (omega arith)
     go false = fits-negsuc (omega arith)
-
--- what a call answers in 64 bits, read back
-pub read-result : {z y : ℤ} → mag z < 9223372036854775808 → z ≡ y → toZ w64 (ofZ w64 z) ≡ y
-read-result {z} {y} h e = toZ-ofZ w64 z (record { sfits = h }) ∙ e

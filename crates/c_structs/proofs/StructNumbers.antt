@@ -7,17 +7,12 @@ use native.Mathlib.Omega.{arith}
 use borrow.Author.Tests.{eq-eqb, ne-eqb}
 use lib.IntN.{ℤ, pos, negsuc}
 use lib.Signed.{mag}
-use mir.Facts.{toZ-ofZ}
 use mir.Syntax.{w64}
-use mir.Val.{SFits, toZ, ofZ}
+use mir.Val.{toZ, ofZ}
 use Rattle.arithmetic.proofs.Machine.{word-pos}
 use Rattle.refusal.specs.Answer.{answered, afterwards}
 use Rattle.scan.specs.declared.head.ScanHead.{ScanHead}
 use Rattle.c_structs.specs.Structs.{isNumber, headNumbers, headLeft}
-
--- a signed number is read back from its word
-pub word-back : (z : ℤ) → mag z < 9223372036854775808 → toZ w64 (ofZ w64 z) ≡ z
-word-back z h = let f : SFits w64 z = record { sfits = h } in toZ-ofZ f
 
 -- a 32-bit number is its own 64-bit word
 pub small-word : (n : ℕ) → n < 4294967296 → toZ w64 n ≡ pos n

@@ -3,12 +3,12 @@ use limits::Grid;
 use limits::HrapGrid;
 use limits::RadolanGrid;
 use limits::Site;
+use record_contents::weighting_byte;
 use refusal::unsigned32;
 use scan::ScanHead;
 use tally::Weighting;
 ghost use mathlib.Core.Path.{_≡_};
-ghost use Rattle.record_contents.specs.RecordBytes.{weightingByte};
-ghost use Rattle.c_structs.specs.Structs.{gridOf, weightingOf, headOf, gridNumbers, headNumbers};
+ghost use Rattle.c_structs.specs.Structs.{siteAt, gridAt, gridOf, weightingOf, headOf, gridNumbers, headNumbers};
 
 // The numbers of a grid of either kind: 1 RADOLAN; 2 HRAP, where x and y are I and J.
 pub struct GridNumbers {
@@ -23,7 +23,7 @@ pub struct GridNumbers {
 // ---- from C
 
 // Any other kind becomes a grid that is refused.
-pub fn grid_of(g: GridNumbers) -> Grid
+fn grid_of(g: GridNumbers) -> Grid
     ensures { λ r. ⌜ r ≡ gridOf g ⌝ }
 {
     if g.kind == 1 {
@@ -49,6 +49,28 @@ pub fn grid_of(g: GridNumbers) -> Grid
         side: 0,
         columns: 0,
         rows: 0,
+    })
+}
+
+pub fn site_at(numbers: &[i64; 2]) -> Site
+    ensures { λ r. ⌜ r ≡ siteAt (now (numbers .entry)) 0 ⌝ }
+{
+    Site {
+        latitude: numbers[0],
+        longitude: numbers[1],
+    }
+}
+
+pub fn grid_at(numbers: &[i64; 6]) -> Grid
+    ensures { λ r. ⌜ r ≡ gridOf (gridAt (now (numbers .entry)) 0) ⌝ }
+{
+    grid_of(GridNumbers {
+        kind: numbers[0],
+        x: numbers[1],
+        y: numbers[2],
+        side: numbers[3],
+        columns: numbers[4],
+        rows: numbers[5],
     })
 }
 
@@ -112,16 +134,6 @@ fn grid_numbers(grid: Grid) -> GridNumbers
     }
 }
 
-// 0 plain, 1 by quality, as in a record.
-fn weighting_number(weighting: Weighting) -> u32
-    ensures { λ r. ⌜ r ≡ weightingByte weighting ⌝ }
-{
-    match weighting {
-        Weighting::Plain => 0,
-        Weighting::ByQuality => 1,
-    }
-}
-
 pub fn put_head(head: ScanHead, numbers: &mut [i64; 13])
     ensures { λ _. ⌜ now (numbers .exit) ≡ headNumbers head ⌝ }
 {
@@ -142,6 +154,6 @@ pub fn put_head(head: ScanHead, numbers: &mut [i64; 13])
         g.side,
         g.columns,
         g.rows,
-        weighting_number(weighting) as i64,
+        weighting_byte(weighting) as i64,
     ];
 }

@@ -1,10 +1,8 @@
 -- The line that answers words, from what the code reads of them. Assumes nothing.
 use mathlib.Core.Bool.{true, false}
 use mathlib.Core.List.{List}
-use mathlib.Core.Path.{_≡_, sym, _∙_}
-use Prim.Native.Nat.{ℕ, _-_}
-use borrow.Author.Tests.{eq-eqb, ne-eqb}
-use lib.ListN.{length}
+use mathlib.Core.Path.{_≡_}
+use Prim.Native.Nat.{ℕ}
 use Rattle.placement.specs.declared.gate.Placement.{Placement}
 use Rattle.limits.specs.declared.grid.Grid.{Grid}
 use Rattle.limits.specs.declared.site.Site.{Site}
@@ -12,32 +10,14 @@ use Rattle.placement.specs.Gate.{placementOf}
 use Rattle.grid.specs.Window.{windowOf}
 use Rattle.text.specs.DecimalText.{lineOf}
 use Rattle.refusal.specs.Unsigned.{unsigned32}
-use Rattle.gate_text.specs.GivenWords.{sameWord, wordStart, word, areWords, numberAt, areNumbers}
-use Rattle.gate_text.specs.GateText.{hrapWord, radolanWord, usageLine, answerWords, given, siteGiven, hrapGiven, radolanGiven, answerText, gateText}
+use Rattle.gate_words.specs.GivenWords.{numberAt}
+use Rattle.gate_words.specs.GivenGate.{given, siteGiven, hrapGiven, radolanGiven}
+use Rattle.gate_text.specs.GateText.{hrapWord, radolanWord, usageLine, answerWords, answerText, gateText}
 
 module _ (words : List ℕ) (grid : Grid) {site : Site} {azimuth range columns : ℕ} {placement : Placement} where
   pub answer-text-is : site ≡ siteGiven words → azimuth ≡ unsigned32 (numberAt words 2) → range ≡ unsigned32 (numberAt words 3) → columns ≡ windowOf grid .columns → placement ≡ placementOf site grid azimuth range → lineOf (answerWords columns placement) ≡ answerText words grid
   unfolding answerText
   answer-text-is s a r c p = rw (p, c, s, a, r)
-
--- ---- which of the two kinds is given, from the four tests in their order
-
-module _ (words : List ℕ) (count : ℕ) (kind : List ℕ) {start : ℕ} (at : start ≡ wordStart words count) where
-  pub other-count : (start ≡ length words → ⊥) → false ≡ given words count kind
-  unfolding given areWords
-  other-count h = rw (ne-eqb (wordStart words count) (length words) (λ e. h (at ∙ e)))
-
-  pub other-kind : start ≡ length words → sameWord (word words 4) kind ≡ false → false ≡ given words count kind
-  unfolding given areWords
-  other-kind e k = rw (eq-eqb (wordStart words count) (length words) (sym at ∙ e), k)
-
-  pub no-numbers : start ≡ length words → sameWord (word words 4) kind ≡ true → areNumbers words 0 4 ≡ false → false ≡ given words count kind
-  unfolding given areWords
-  no-numbers e k n = rw (eq-eqb (wordStart words count) (length words) (sym at ∙ e), k, n)
-
-  pub by-the-rest : start ≡ length words → sameWord (word words 4) kind ≡ true → areNumbers words 0 4 ≡ true → areNumbers words 5 (count - 5) ≡ given words count kind
-  unfolding given areWords
-  by-the-rest e k n = rw (eq-eqb (wordStart words count) (length words) (sym at ∙ e), k, n)
 
 -- ---- what is answered
 

@@ -1,19 +1,17 @@
--- One gate given in words: LATITUDE LONGITUDE AZIMUTH RANGE hrap I J COLUMNS ROWS, or LATITUDE LONGITUDE AZIMUTH RANGE radolan X Y SIDE
--- COLUMNS ROWS, and the line that answers it. Assumes nothing.
-use mathlib.Core.Bool.{Bool, _&&_, cond}
+-- The line that answers words: where they give a gate, its placement, otherwise how the program is called. Assumes nothing.
+use mathlib.Core.Bool.{cond}
 use mathlib.Core.List.{List, [], _∷_}
-use Prim.Native.Nat.{ℕ, _-_, _/_, _%_}
+use Prim.Native.Nat.{ℕ, _/_, _%_}
 use Rattle.placement.specs.declared.gate.Placement.{Placement}
 use Rattle.placement.specs.declared.gate.Placement.the-variants.{Inside, Outside, Refused}
 use Rattle.limits.specs.declared.grid.Grid.{Grid}
-use Rattle.limits.specs.declared.grid.Grid.the-variants.{Radolan, Hrap}
-use Rattle.limits.specs.declared.site.Site.{Site}
 use Rattle.placement.specs.Gate.{placementOf}
 use Rattle.grid.specs.Window.{windowOf}
 use Rattle.text.specs.DecimalText.{decimalOf, signedDecimalOf, lineOf}
 use Rattle.text.specs.RefusedLine.{refusedWord}
 use Rattle.refusal.specs.Unsigned.{unsigned32}
-use Rattle.gate_text.specs.GivenWords.{sameWord, word, areWords, numberAt, areNumbers}
+use Rattle.gate_words.specs.GivenWords.{numberAt}
+use Rattle.gate_words.specs.GivenGate.{given, siteGiven, hrapGiven, radolanGiven}
 use Rattle.ledger_text.specs.LedgerLine.{outsideWord}
 
 -- the words `inside`, `hrap` and `radolan`
@@ -45,36 +43,11 @@ answerWords columns (Outside x y) = outsideWord ∷ signedDecimalOf x ∷ signed
 answerWords columns (Refused number) = refusedWord ∷ decimalOf number ∷ []
 
 module _ (words : List ℕ) where
-  -- so many words, the fifth of them the kind, all others numbers
-  unfoldable pub given : ℕ → List ℕ → Bool
-  given count kind =
-      areWords words count && sameWord (word words 4) kind && areNumbers words 0 4 && areNumbers words 5 (count - 5)
-
-  unfoldable pub siteGiven : Site
-  siteGiven = record { latitude = numberAt words 0; longitude = numberAt words 1 }
-
-  unfoldable pub hrapGiven : Grid
-  hrapGiven = Hrap (record {
-    i = numberAt words 5;
-    j = numberAt words 6;
-    columns = unsigned32 (numberAt words 7);
-    rows = unsigned32 (numberAt words 8);
-  })
-
-  unfoldable pub radolanGiven : Grid
-  radolanGiven = Radolan (record {
-    x = numberAt words 5;
-    y = numberAt words 6;
-    side = unsigned32 (numberAt words 7);
-    columns = unsigned32 (numberAt words 8);
-    rows = unsigned32 (numberAt words 9);
-  })
-
   unfoldable pub answerText : Grid → List ℕ
   answerText grid =
-      lineOf (answerWords (windowOf grid .columns) (placementOf siteGiven grid (unsigned32 (numberAt words 2)) (unsigned32 (numberAt words 3))))
+      lineOf (answerWords (windowOf grid .columns) (placementOf (siteGiven words) grid (unsigned32 (numberAt words 2)) (unsigned32 (numberAt words 3))))
 
   unfoldable pub gateText : List ℕ
   gateText =
-      cond (given 9 hrapWord) (answerText hrapGiven)
-      (cond (given 10 radolanWord) (answerText radolanGiven) usageLine)
+      cond (given words 9 hrapWord) (answerText (hrapGiven words))
+      (cond (given words 10 radolanWord) (answerText (radolanGiven words)) usageLine)

@@ -1,2 +1,1 @@
-pub mod GivenWords
 pub mod GateText

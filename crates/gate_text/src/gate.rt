@@ -1,9 +1,9 @@
-// One gate given in words, and the line that answers it.
-use crate::given::hrap_given;
-use crate::given::is_given;
-use crate::given::radolan_given;
-use crate::given::site_given;
-use crate::given::unsigned_at;
+// The line that answers the words that a gate is given in.
+use gate_words::hrap_given;
+use gate_words::is_given;
+use gate_words::radolan_given;
+use gate_words::site_given;
+use gate_words::unsigned_at;
 use ledger_text::columns_of;
 use limits::Grid;
 use placement::Placement;

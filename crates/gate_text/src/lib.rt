@@ -1,6 +1,4 @@
-// One gate given in words, and the line that answers it.
+// The line that answers the words that a gate is given in.
 mod gate;
-mod given;
-mod words;
 
 pub use gate::gate_text;

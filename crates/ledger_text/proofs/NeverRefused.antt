@@ -19,7 +19,7 @@ use Rattle.grid.specs.Sphere.{sphereOf}
 use Rattle.grid.specs.Window.{windowOf}
 use Rattle.placement.specs.Located.{inWindow, located}
 use Rattle.refusal.proofs.RangeBounds.{range-bounds}
-use Rattle.remap.proofs.AcceptedRemap.{gate-accepted}
+use Rattle.accepted_remap.proofs.AcceptedRemap.{gate-accepted}
 use Rattle.record_layout.specs.RecordPlaces.{headIn, azimuthsIn}
 use Rattle.record_layout.specs.RecordRefusal.{headRefusal}
 use Rattle.record_layout.proofs.AcceptedRecord.{record-numbers}

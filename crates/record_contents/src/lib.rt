@@ -1,5 +1,5 @@
-// Writes the seven fields into a buffer, each with its tag and length. These functions are for our own crate
-// `record_writer`, which has checked the scan and the buffer's length.
+// Writes fields 1 to 4 into a buffer, each with its tag and length. These functions are for our own crates: `record_writer` has checked the
+// scan and the buffer's length.
 use big_endian::put_i16;
 use big_endian::put_i32;
 use big_endian::put_u8;
@@ -13,16 +13,16 @@ use scan::ScanHead;
 use tally::Weighting;
 ghost use mathlib.Core.Path.{_≡_};
 ghost use mathlib.Core.Bool.{true};
-ghost use Prim.Native.Nat.{_≤_, _+_, _*_};
+ghost use Prim.Native.Nat.{_≤_, _+_};
 ghost use lib.ListN.{length};
 ghost use lib.Seq.{sets};
 ghost use Rattle.limits.specs.Accepted.{siteAccepted, gridAccepted};
 ghost use Rattle.limits.specs.declared.grid.Grid.the-variants.{Radolan, Hrap};
-ghost use Rattle.big_endian.specs.BigEndian.{bytesOf, allBytesOf};
+ghost use Rattle.big_endian.specs.BigEndian.{bytesOf};
 ghost use Rattle.record_contents.specs.RecordBytes.{siteBytes, gatesBytes, gridBytes, weightingByte, headerBytes, fieldBytes};
 
 // A one-byte tag and a two-byte length.
-fn put_header(buffer: &mut [u8], at: usize, tag: u32, count: u32)
+pub fn put_header(buffer: &mut [u8], at: usize, tag: u32, count: u32)
     requires { ⌜ at + 3 ≤ length (now buffer) ⌝ }
     ensures { λ _. ⌜ now (buffer .exit) ≡ sets (now (buffer .entry)) at (headerBytes tag count) ⌝ }
 {
@@ -86,7 +86,7 @@ fn put_hrap(buffer: &mut [u8], g: HrapGrid)
 }
 
 // 0 plain, 1 by quality.
-fn weighting_byte(weighting: Weighting) -> u32
+pub fn weighting_byte(weighting: Weighting) -> u32
     ensures { λ r. ⌜ r ≡ weightingByte weighting ⌝ }
 {
     match weighting {
@@ -101,40 +101,4 @@ pub fn put_weighting(buffer: &mut [u8], at: usize, weighting: Weighting)
 {
     put_header(buffer, at, 4, 1);
     put_u8(buffer, at + 3, weighting_byte(weighting));
-}
-
-pub fn put_azimuths(buffer: &mut [u8], at: usize, azimuths: &[u32])
-    requires { ⌜ (length (now azimuths) ≤ 720) × (at + 3 + 4 * length (now azimuths) ≤ length (now buffer)) ⌝ }
-    ensures { λ _. ⌜ now (buffer .exit) ≡ sets (now (buffer .entry)) at (fieldBytes 5 (allBytesOf 4 (now (azimuths .entry)))) ⌝ }
-{
-    put_header(buffer, at, 5, (4 * azimuths.len()) as u32);
-    let mut k = 0;
-    while k < azimuths.len() {
-        put_u32(buffer, at + 3 + 4 * k, azimuths[k]);
-        k += 1;
-    }
-}
-
-pub fn put_values(buffer: &mut [u8], at: usize, values: &[u16])
-    requires { ⌜ (length (now values) ≤ 32767) × (at + 3 + 2 * length (now values) ≤ length (now buffer)) ⌝ }
-    ensures { λ _. ⌜ now (buffer .exit) ≡ sets (now (buffer .entry)) at (fieldBytes 6 (allBytesOf 2 (now (values .entry)))) ⌝ }
-{
-    put_header(buffer, at, 6, (2 * values.len()) as u32);
-    let mut k = 0;
-    while k < values.len() {
-        put_u16(buffer, at + 3 + 2 * k, values[k] as u32);
-        k += 1;
-    }
-}
-
-pub fn put_qualities(buffer: &mut [u8], at: usize, qualities: &[u8])
-    requires { ⌜ (length (now qualities) ≤ 32767) × (at + 3 + length (now qualities) ≤ length (now buffer)) ⌝ }
-    ensures { λ _. ⌜ now (buffer .exit) ≡ sets (now (buffer .entry)) at (fieldBytes 7 (allBytesOf 1 (now (qualities .entry)))) ⌝ }
-{
-    put_header(buffer, at, 7, qualities.len() as u32);
-    let mut k = 0;
-    while k < qualities.len() {
-        put_u8(buffer, at + 3 + k, qualities[k] as u32);
-        k += 1;
-    }
 }

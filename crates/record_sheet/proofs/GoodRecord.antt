@@ -15,9 +15,10 @@ use Rattle.scan.specs.declared.head.ScanHead.{ScanHead}
 use Rattle.scan.specs.Scan.{gatesOf, cellsOf, Scan}
 use Rattle.scan.specs.ScanRefusal.{listsAccepted, qualityAccepted, lengthsOf, listsExact, refusalFor}
 use Rattle.scan.specs.LentLists.{Lists}
-use Rattle.remap.specs.Remap.{filledLists, Remaps}
+use Rattle.accepted_remap.specs.FilledLists.{filledLists}
+use Rattle.remap.specs.Remap.{Remaps}
 use Rattle.refusal.proofs.AnswerLaws.{filled-is}
-use Rattle.remap.specs.declared.remap_scan.Remapped.{Remapped}
+use Rattle.remap.specs.declared.Remapped.{Remapped}
 use Rattle.tally.specs.Tally.{talliedSums}
 use Rattle.scan_laws.specs.Placed.{placedOf}
 use Rattle.scan_laws.proofs.PlacedTotal.{placed-total}

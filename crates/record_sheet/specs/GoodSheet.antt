@@ -4,7 +4,7 @@ use Prim.Native.Nat.{ℕ}
 use Rattle.grid.specs.Window.{windowOf}
 use Rattle.scan.specs.Scan.{gatesOf}
 use Rattle.scan_laws.specs.Placed.{placedOf}
-use Rattle.remap.specs.Remap.{filledLists}
+use Rattle.accepted_remap.specs.FilledLists.{filledLists}
 use Rattle.record_layout.specs.RecordPlaces.{headIn, scanIn}
 use Rattle.sheet_lines.specs.SheetLines.{sheetLines}
 

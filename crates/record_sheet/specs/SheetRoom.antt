@@ -1,4 +1,4 @@
--- What the private functions ask of a record. Assumes nothing.
+-- What the functions that print a sheet ask of a record. Assumes nothing.
 use mathlib.Core.List.{List}
 use mathlib.Core.Path.{_≡_}
 use Prim.Native.Nat.{ℕ, _≤_}

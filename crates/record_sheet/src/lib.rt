@@ -1,4 +1,4 @@
-// The sheet of a good record within the two sizes. The functions here are ours alone: record and sizes have been tested.
+// The sheet of a good record within the two sizes, by lists that are lent.
 use scan::ScanHead;
 use sheet_lines::put_sheet;
 ghost use mathlib.Core.Bool.{true};
@@ -11,8 +11,8 @@ ghost use Rattle.text.specs.StoredText.{Stored};
 ghost use Rattle.record_sheet.specs.GoodSheet.{goodSheet};
 ghost use Rattle.record_sheet.specs.SheetRoom.{Sized};
 
-// With lists of exact lengths: read, remap, print.
-fn cells_text(
+// Read, remap, print. For our own crates: they have tested record and sizes, and the lists have the exact lengths.
+pub fn cells_text(
     bytes: &[u8],
     head: ScanHead,
     azimuths: &mut [u32],
@@ -54,39 +54,5 @@ fn cells_text(
         counts,
         means,
         cell_qualities,
-    )
-}
-
-// The lists are parts of arrays that hold the largest scan that is printed.
-pub fn good_sheet(bytes: &[u8], head: ScanHead, page: &mut [u8; 120000]) -> usize
-    requires { ⌜ Sized (now bytes) head ⌝ }
-    ensures { λ r. ⌜ r ≤ 120000 ⌝ }
-    ensures { λ r. ⌜ Stored (now (page .entry)) 0 (goodSheet (now (bytes .entry))) r (now (page .exit)) ⌝ }
-{
-    let rays = head.rays as usize;
-    let gates = scan::gates_of(head);
-    let cells = scan::cells_of(head);
-    let mut azimuths = [0u32; 720];
-    let mut values = [0u16; 4096];
-    let mut qualities = [0u8; 4096];
-    let mut ledger = [0u32; 4096];
-    let mut counts = [0u32; 1024];
-    let mut quality_sums = [0u32; 1024];
-    let mut value_sums = [0u64; 1024];
-    let mut means = [0u16; 1024];
-    let mut cell_qualities = [0u8; 1024];
-    cells_text(
-        bytes,
-        head,
-        &mut azimuths[..rays],
-        &mut values[..gates],
-        &mut qualities[..gates],
-        &mut ledger[..gates],
-        &mut counts[..cells],
-        &mut quality_sums[..cells],
-        &mut value_sums[..cells],
-        &mut means[..cells],
-        &mut cell_qualities[..cells],
-        page,
     )
 }

@@ -1,11 +1,11 @@
 // Writes a record.
 use limits::Grid;
-use record_contents::put_azimuths;
+use list_contents::put_azimuths;
+use list_contents::put_qualities;
+use list_contents::put_values;
 use record_contents::put_gates;
 use record_contents::put_grid;
-use record_contents::put_qualities;
 use record_contents::put_site;
-use record_contents::put_values;
 use record_contents::put_weighting;
 use scan::ScanHead;
 ghost use mathlib.Core.Path.{_≡_};

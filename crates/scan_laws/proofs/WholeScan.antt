@@ -8,11 +8,12 @@ use lib.ListN.{length, getD}
 use Rattle.arithmetic.specs.Places.{sumTo}
 use Rattle.arithmetic.proofs.Places.{table-at}
 use Rattle.refusal.proofs.AnswerLaws.{given-is, filled-is}
-use Rattle.remap.specs.declared.remap_scan.Remapped.the-variants.{Done}
+use Rattle.remap.specs.declared.Remapped.the-variants.{Done}
 use Rattle.tally.specs.Gates.{echoOf}
 use Rattle.scan.specs.LentLists.{Lists}
 use Rattle.scan_laws.specs.Placed.{placedOf}
-use Rattle.remap.specs.Remap.{filledLists, remapAnswer, Remaps}
+use Rattle.accepted_remap.specs.FilledLists.{filledLists}
+use Rattle.remap.specs.Remap.{remapAnswer, Remaps}
 use Rattle.scan.specs.Scan.{Scan, cellsOf}
 use Rattle.scan.specs.ScanRefusal.{refusalFor}
 use Rattle.scan.proofs.AcceptedScan.{AcceptedScan, accepted-scan, window-size}

@@ -10,7 +10,7 @@ use Rattle.tally.specs.declared.gates.Weighting.{Weighting}
 use Rattle.tally.specs.declared.gates.Weighting.the-variants.{Plain, ByQuality}
 use Rattle.scan.specs.declared.head.ScanHead.{ScanHead}
 use Rattle.scan.specs.LentLists.{Lists}
-use Rattle.remap.specs.Remap.{filledLists}
+use Rattle.accepted_remap.specs.FilledLists.{filledLists}
 use Rattle.scan.specs.Scan.{Scan}
 use Rattle.scan.specs.ScanRefusal.{listsExact, refusalFor}
 

@@ -1,6 +1,6 @@
 // What is printed for any bytes.
+use good_sheet::good_sheet;
 use record_reader::ReadScan;
-use record_sheet::good_sheet;
 use scan::ScanHead;
 use sheet_lines::put_too_large;
 use text::put_refused;

@@ -60,9 +60,9 @@ fn quarter_sine(t: u32) -> i64
 {
     let a = (t / 1000) as usize;
     let b = (t % 1000) as usize;
-    let s = sine_tables::coarse_sines();
-    let sum = product(s[a], sine_tables::fine_cosine(b))
-        + product(s[900 - a], sine_tables::fine_sine(b));
+    let s = coarse_sines::coarse_sines();
+    let sum = product(s[a], fine_sines::fine_cosine(b))
+        + product(s[900 - a], fine_sines::fine_sine(b));
     (sum / Q) as i64
 }
 

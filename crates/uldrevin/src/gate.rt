@@ -1,9 +1,8 @@
 // The placement of one gate. The answer is 0, with cell, X and Y written, or the refusal number, with the three as they came in. The
 // cell of a gate outside the grid is 4,294,967,295.
 use c_answers::answer_gate;
-use c_structs::GridNumbers;
-use c_structs::grid_of;
-use limits::Site;
+use c_structs::grid_at;
+use c_structs::site_at;
 use refusal::unsigned32;
 ghost use Rattle.refusal.specs.Answer.{Answers};
 ghost use Rattle.placement.specs.Gate.{placedGate};
@@ -30,22 +29,10 @@ pub extern "C" fn uldrevin_place(
         (placedGate at on (spec.unsigned32 azimuth) (spec.unsigned32 range))
         (lentGate cell x y) r ⌝ }
 {
-    let numbers = GridNumbers {
-        kind: grid[0],
-        x: grid[1],
-        y: grid[2],
-        side: grid[3],
-        columns: grid[4],
-        rows: grid[5],
-    };
-    let place = Site {
-        latitude: site[0],
-        longitude: site[1],
-    };
     answer_gate(
         placement::place(
-            place,
-            grid_of(numbers),
+            site_at(site),
+            grid_at(grid),
             unsigned32(azimuth),
             unsigned32(range),
         ),

@@ -3,7 +3,7 @@ use c_answers::remap_number;
 use c_structs::head_of;
 ghost use Rattle.refusal.specs.Answer.{Answers};
 ghost use Rattle.scan.specs.LentLists.{lentLists};
-ghost use Rattle.remap.specs.Remap.{filledLists};
+ghost use Rattle.accepted_remap.specs.FilledLists.{filledLists};
 ghost use Rattle.scan.specs.Scan.{scanHeld};
 ghost use Rattle.scan.specs.ScanRefusal.{refusalFor};
 ghost use Rattle.c_structs.specs.Structs.{headOf};

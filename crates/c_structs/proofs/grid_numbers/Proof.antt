@@ -1,7 +1,8 @@
 -- `c_structs::grid_numbers` meets its contract. Assumes nothing.
 use lib.IntN.{pos}
 use Rattle.c_structs.specs.Structs.{gridNumbers}
-use Rattle.c_structs.proofs.StructNumbers.{word-back, small-word}
+use Rattle.arithmetic.proofs.Machine.{word-back}
+use Rattle.c_structs.proofs.StructNumbers.{small-word}
 use borrow.Author.Needs.{needs}
 use Rattle.c_structs.proofs.grid_numbers.Statement.{statement}
 use Rattle.c_structs.proofs.grid_numbers.Tie as tie

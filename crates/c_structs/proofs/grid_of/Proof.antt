@@ -4,7 +4,8 @@ use native.Mathlib.Omega.{arith}
 use Rattle.limits.specs.declared.grid.Grid.the-variants.{Radolan, Hrap}
 use Rattle.refusal.specs.Unsigned.{unsigned32}
 use Rattle.c_structs.specs.Structs.{gridOf, noGrid}
-use Rattle.c_structs.proofs.StructNumbers.{word-back, is-number, is-other-number}
+use Rattle.arithmetic.proofs.Machine.{word-back}
+use Rattle.c_structs.proofs.StructNumbers.{is-number, is-other-number}
 use borrow.Author.Needs.{needs}
 use Rattle.c_structs.proofs.grid_of.Statement.{statement}
 use Rattle.c_structs.proofs.grid_of.Tie as tie

@@ -4,7 +4,7 @@ use lib.IntN.{pos}
 use lib.ListN.{getD}
 use Rattle.refusal.specs.Unsigned.{unsigned32}
 use Rattle.c_structs.specs.Structs.{siteAt, gridAt, gridOf, weightingOf, headOf}
-use Rattle.c_structs.proofs.StructNumbers.{word-back}
+use Rattle.arithmetic.proofs.Machine.{word-back}
 use borrow.Author.Needs.{needs}
 use Rattle.c_structs.proofs.head_of.Statement.{statement}
 use Rattle.c_structs.proofs.head_of.Tie as tie

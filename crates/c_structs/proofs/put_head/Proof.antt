@@ -4,7 +4,8 @@ use mathlib.Core.Path.{_≡_, refl, ap, ap₂, _∙_}
 use lib.IntN.{ℤ, pos}
 use Rattle.c_structs.specs.declared.GridNumbers.{GridNumbers}
 use Rattle.c_structs.specs.Structs.{gridNumbers, headNumbers}
-use Rattle.c_structs.proofs.StructNumbers.{word-back, small-word}
+use Rattle.arithmetic.proofs.Machine.{word-back}
+use Rattle.c_structs.proofs.StructNumbers.{small-word}
 use borrow.Author.Needs.{needs}
 use Rattle.c_structs.proofs.put_head.Statement.{statement}
 use Rattle.c_structs.proofs.put_head.Tie as tie
@@ -28,8 +29,8 @@ cast-t9 c = search needs
 cast-t10 : tie.Need-cast-t10
 cast-t10 c = search needs
 
-weighting-number-requires : tie.Need-weighting-number-requires
-weighting-number-requires c κs = search needs
+weighting-byte-requires : tie.Need-weighting-byte-requires
+weighting-byte-requires c κs = search needs
 
 cast-t12 : tie.Need-cast-t12
 cast-t12 c = search needs
@@ -54,7 +55,7 @@ returns c =
     also (word-back _ (grid-told .1 .1 .1 .0 .1) ∙ ap (λ (g : GridNumbers). g .side) grid)
     also (word-back _ (grid-told .1 .1 .1 .1 .0 .1) ∙ ap (λ (g : GridNumbers). g .columns) grid)
     also (word-back _ (grid-told .1 .1 .1 .1 .1 .0 .1) ∙ ap (λ (g : GridNumbers). g .rows) grid)
-    also (small-word _ (c .before .before .before .weighting-number .ok) ∙ ap pos (c .before .before .before .weighting-number .ensures))
+    also (small-word _ (c .before .before .before .weighting-byte .ok) ∙ ap pos (c .before .before .before .weighting-byte .ensures))
     also refl
 
 pub put-head-spec : {M : Type 1} → statement M
@@ -66,6 +67,6 @@ put-head-spec =
     cast-t8
     cast-t9
     cast-t10
-    weighting-number-requires
+    weighting-byte-requires
     cast-t12
     returns)

@@ -1,7 +1,7 @@
 -- `record_sheet::cells_text` meets its contract: read, remapped, printed. Assumes nothing.
 use mathlib.Core.Path.{_≡_, sym, ap, _∙_}
 use Rattle.scan.specs.LentLists.{Lists, listsHeld}
-use Rattle.remap.specs.Remap.{filledLists}
+use Rattle.accepted_remap.specs.FilledLists.{filledLists}
 use Rattle.scan.specs.Scan.{Scan, scanHeld, cellsOf}
 use Rattle.record_layout.specs.RecordPlaces.{scanIn}
 use native.Mathlib.Omega.{arith}

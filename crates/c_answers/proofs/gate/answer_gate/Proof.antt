@@ -2,7 +2,7 @@
 use mathlib.Core.Path.{refl}
 use Rattle.refusal.specs.Answer.{numberIn, leftBy}
 use Rattle.placement.specs.Gate.{placementAnswer}
-use Rattle.c_structs.proofs.StructNumbers.{word-back}
+use Rattle.arithmetic.proofs.Machine.{word-back}
 use Rattle.c_answers.proofs.SameGate.{same-gate}
 use borrow.Author.Needs.{needs}
 use Rattle.c_answers.proofs.gate.answer_gate.Statement.{statement}

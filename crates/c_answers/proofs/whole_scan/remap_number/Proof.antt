@@ -1,7 +1,7 @@
 -- `c_answers::whole_scan::remap_number` meets its contract. Assumes nothing.
 use mathlib.Core.Path.{sym, ap}
 use Rattle.refusal.specs.Answer.{numberIn}
-use Rattle.remap.specs.declared.remap_scan.Remapped.{Remapped}
+use Rattle.remap.specs.declared.Remapped.{Remapped}
 use Rattle.remap.specs.Remap.{remapAnswer}
 use borrow.Author.Needs.{needs}
 use Rattle.c_answers.proofs.whole_scan.remap_number.Statement.{statement}

@@ -2,7 +2,7 @@
 use mathlib.Core.Path.{sym, _∙_}
 use borrow.Author.Tests.{eq-eqb, ne-eqb}
 use Rattle.record_layout.specs.RecordPlaces.{gridIn}
-use Rattle.big_endian.proofs.ReadNumbers.{read-result}
+use Rattle.arithmetic.proofs.Machine.{read-result}
 use borrow.Author.Needs.{needs}
 use Rattle.record_layout.proofs.head.grid_in.Statement.{statement}
 use Rattle.record_layout.proofs.head.grid_in.Tie as tie

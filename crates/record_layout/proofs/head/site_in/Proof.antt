@@ -1,6 +1,6 @@
 -- `record_layout::head::site_in` meets its contract. Assumes nothing.
 use Rattle.record_layout.specs.RecordPlaces.{siteIn}
-use Rattle.big_endian.proofs.ReadNumbers.{read-result}
+use Rattle.arithmetic.proofs.Machine.{read-result}
 use borrow.Author.Needs.{needs}
 use Rattle.record_layout.proofs.head.site_in.Statement.{statement}
 use Rattle.record_layout.proofs.head.site_in.Tie as tie

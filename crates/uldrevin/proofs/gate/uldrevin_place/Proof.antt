@@ -1,8 +1,6 @@
 -- `uldrevin::gate::uldrevin_place` meets its contract, which is that of `placement::place`. Assumes nothing.
 use mathlib.Core.Path.{_≡_, ap, _∙_}
 use Prim.Native.Nat.{ℕ}
-use lib.IntN.{pos}
-use lib.ListN.{getD}
 use mir.Facts.{toZ-ofZ}
 use Rattle.limits.specs.declared.grid.Grid.{Grid}
 use Rattle.limits.specs.declared.site.Site.{Site}
@@ -12,14 +10,13 @@ use Rattle.placement.specs.GateRefusal.{gateRefusal}
 use Rattle.refusal.specs.Unsigned.{unsigned32}
 use Rattle.refusal.proofs.AnswerLaws.{number-in, left-by}
 use Rattle.c_structs.specs.Structs.{siteAt, gridAt, gridOf}
-use Rattle.c_structs.proofs.StructNumbers.{word-back}
 use borrow.Author.Needs.{needs}
 use Rattle.uldrevin.proofs.gate.uldrevin_place.Statement.{statement}
 use Rattle.uldrevin.proofs.gate.uldrevin_place.Tie as tie
 
 -- what came in, from where the gate is placed
 abbrev start : tie.After-place → tie.Start
-start c = c .before .before .before .before .before .before .before .before .before .before .before .before
+start c = c .before .before .before .before .before
 
 abbrev told : Site → Grid → ℕ → ℕ → Answer PlacedGate
 told site grid azimuth range = answered (gateRefusal site grid azimuth range) (placedGate site grid azimuth range)
@@ -29,48 +26,18 @@ same-answer e f p q i = told (e i) (f i) (p i) (q i)
 
 -- the placement is that of the numbers in the structs
 told-numbers : (c : tie.After-place) → let s = start c in let at = siteAt (s .args .site .now) 0 in let on = gridOf (gridAt (s .args .grid .now) 0) in placementAnswer (c .place .result) ≡ told at on (unsigned32 (s .args .azimuth)) (unsigned32 (s .args .range))
-unfolding siteAt gridAt
 told-numbers c =
     let s = start c in
-    let site : _≡_ {A = Site} _ (siteAt (s .args .site .now) 0) = λ i. record { latitude = word-back (getD (s .args .site .now) 0 (pos 0)) (c .before .before .before .before .before .t122 .given) i; longitude = word-back (getD (s .args .site .now) 1 (pos 0)) (c .before .before .before .before .t272 .given) i } in
-    let grid = c .before .before .before .grid-of .ensures ∙ ap gridOf (λ i. record {
-      kind = word-back (getD (s .args .grid .now) 0 (pos 0)) (c .before .before .before .before .before .before .before .before .before .before .before .t12 .given) i;
-      x = word-back (getD (s .args .grid .now) 1 (pos 0)) (c .before .before .before .before .before .before .before .before .before .before .t15 .given) i;
-      y = word-back (getD (s .args .grid .now) 2 (pos 0)) (c .before .before .before .before .before .before .before .before .before .t18 .given) i;
-      side = word-back (getD (s .args .grid .now) 3 (pos 0)) (c .before .before .before .before .before .before .before .before .t21 .given) i;
-      columns = word-back (getD (s .args .grid .now) 4 (pos 0)) (c .before .before .before .before .before .before .before .t24 .given) i;
-      rows = word-back (getD (s .args .grid .now) 5 (pos 0)) (c .before .before .before .before .before .before .t27 .given) i;
-    }) in
     let azimuth = simp (toZ-ofZ, s .fits .azimuth) at (c .before .before .unsigned32 .ensures) in
     let range = simp (toZ-ofZ, s .fits .range) at (c .before .unsigned322 .ensures) in
-    c .place .ensures .1 .0 ∙ same-answer site grid azimuth range
+    c .place .ensures .1 .0
+    ∙ same-answer (c .before .before .before .before .site-at .ensures) (c .before .before .before .grid-at .ensures) azimuth range
 
-element-copy-out-t12 : tie.Need-element-copy-out-t12
-element-copy-out-t12 c = search needs
+site-at-requires : tie.Need-site-at-requires
+site-at-requires c κs = search needs
 
-element-copy-out-t15 : tie.Need-element-copy-out-t15
-element-copy-out-t15 c = search needs
-
-element-copy-out-t18 : tie.Need-element-copy-out-t18
-element-copy-out-t18 c = search needs
-
-element-copy-out-t21 : tie.Need-element-copy-out-t21
-element-copy-out-t21 c = search needs
-
-element-copy-out-t24 : tie.Need-element-copy-out-t24
-element-copy-out-t24 c = search needs
-
-element-copy-out-t27 : tie.Need-element-copy-out-t27
-element-copy-out-t27 c = search needs
-
-element-copy-out-t12-2 : tie.Need-element-copy-out-t12-2
-element-copy-out-t12-2 c = search needs
-
-element-copy-out-t27-2 : tie.Need-element-copy-out-t27-2
-element-copy-out-t27-2 c = search needs
-
-grid-of-requires : tie.Need-grid-of-requires
-grid-of-requires c κs = search needs
+grid-at-requires : tie.Need-grid-at-requires
+grid-at-requires c κs = search needs
 
 unsigned32-requires : tie.Need-unsigned32-requires
 unsigned32-requires c κs = search needs
@@ -94,15 +61,8 @@ pub uldrevin-place-spec : {M : Type 1} → statement M
 uldrevin-place-spec =
     tie.close
     (tie.spec
-    element-copy-out-t12
-    element-copy-out-t15
-    element-copy-out-t18
-    element-copy-out-t21
-    element-copy-out-t24
-    element-copy-out-t27
-    element-copy-out-t12-2
-    element-copy-out-t27-2
-    grid-of-requires
+    site-at-requires
+    grid-at-requires
     unsigned32-requires
     unsigned32-requires-2
     place-requires

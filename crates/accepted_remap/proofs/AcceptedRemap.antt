@@ -1,0 +1,151 @@
+-- What each step of an accepted scan needs, and that the steps' lists are document 01's. Assumes nothing.
+use mathlib.Core.Bool.{true, _&&_}
+use mathlib.Core.List.{List}
+use mathlib.Core.Path.{_≡_, refl, sym, ap, _∙_}
+use Prim.Native.Nat.{ℕ, _+_, _*_, _-_, _<_, _≤_}
+use native.Mathlib.Nat.{mul-le-mul, mul-le-mul-right}
+use native.Mathlib.Omega.{arith}
+use borrow.Author.Tests.{leb-true, le-leb}
+use lib.Dec.{leb}
+use lib.ListN.{length, getD, length-replicate}
+use lib.Seq.{sets}
+use Rattle.arithmetic.proofs.Places.{table-length, table-at, table-ext, all-at}
+use Rattle.arithmetic.proofs.SetsLaws.{sets-whole}
+use Rattle.arithmetic.proofs.Test.{and-true}
+use Rattle.placement.specs.Gate.{placementOf, unlessRefused, entryOf}
+use Rattle.projection.specs.Position.{positionOf}
+use Rattle.refusal.specs.Checks.{inRange, firstRefusal}
+use Rattle.limits.specs.Accepted.{rangeAccepted, azimuthAccepted, siteAccepted, gridAccepted}
+use Rattle.placement.specs.GateRefusal.{gateRefusal}
+use Rattle.placement.specs.Survey.{Surveyed, surveyOf, surveyed, surveyedEntry}
+use Rattle.placement.proofs.SurveyLimits.{surveyed-of}
+use Rattle.scan.specs.declared.head.ScanHead.{ScanHead}
+use Rattle.publish.specs.Publish.{publishedCells}
+use Rattle.scan.specs.Rays.{regularRays}
+use Rattle.scan.specs.LentLists.{Lists}
+use Rattle.tally.specs.LentSums.{Sums}
+use Rattle.scan.specs.Scan.{Scan, raysOf, gatesOf, cellsOf}
+use Rattle.accepted_remap.specs.FilledLists.{ledgerOf, filledLists}
+use Rattle.scan.specs.ScanRefusal.{centresAccepted, qualityAccepted}
+use Rattle.scan_ledger.specs.LedgerRoom.{RaysSpan, surveyedLedger}
+use Rattle.tally.specs.Tally.{talliedSums, cleared, addedSums}
+use Rattle.tally.specs.TallyRoom.{Addable}
+use Rattle.publish.specs.PublishRoom.{Publishable}
+use Rattle.scan.proofs.AcceptedScan.{AcceptedScan}
+use Rattle.scan.proofs.RayLaws.{gates-length, gates-same, regular-gates}
+use Rattle.tally.proofs.TallyWidth.{GatesMost, count-fits, quality-sum-fits, value-sum-fits}
+use Rattle.tally.proofs.TallyFromNothing.{zeros-at, from-nothing}
+use Rattle.publish.proofs.PublishedRange.{mean-published, quality-published}
+
+-- the last centre is the farthest
+pub centres-most : (gates first spacing g : ℕ) → centresAccepted gates first spacing ≡ true → g < gates → first + g * spacing ≤ 46000000
+unfolding centresAccepted
+centres-most gates first spacing g e h =
+    let last = leb-true (first + (gates - 1) * spacing) 46000000 (and-true (leb first 46000000 && inRange 1 1000000 spacing) _ e .1) in
+    omega (arith, last, mul-le-mul-right {m = g} {n = gates - 1} spacing (omega arith))
+
+-- no gate of accepted numbers is refused
+pub gate-accepted : (head : ScanHead) (azimuth g : ℕ) → centresAccepted (head .gates) (head .first) (head .spacing) ≡ true → siteAccepted (head .site) ≡ true → gridAccepted (head .grid) ≡ true → azimuthAccepted azimuth ≡ true → g < head .gates → gateRefusal (head .site) (head .grid) azimuth (head .first + g * head .spacing) ≡ 0
+unfolding gateRefusal firstRefusal rangeAccepted
+gate-accepted head azimuth g centres site grid good h =
+    let range : leb (head .first + g * head .spacing) 46000000 ≡ true = le-leb _ _ (centres-most (head .gates) (head .first) (head .spacing) g centres h) in
+    rw (range, site, grid, good)
+
+-- a gate that is not refused has the entry of its survey
+accepted-entry : (head : ScanHead) (azimuth range : ℕ) → gateRefusal (head .site) (head .grid) azimuth range ≡ 0 → surveyedEntry (surveyOf (head .site) (head .grid)) azimuth range ≡ entryOf (placementOf (head .site) (head .grid) azimuth range)
+unfolding surveyedEntry surveyed surveyOf placementOf unlessRefused positionOf
+accepted-entry head azimuth range e = rw e
+
+module _ {scan : Scan} {lists : Lists} (good : AcceptedScan scan lists) where
+  pub is-surveyed : Surveyed (surveyOf (scan .head .site) (scan .head .grid))
+  is-surveyed = surveyed-of (scan .head .site) (scan .head .grid) (good .site) (good .grid)
+
+  gate-range : (g : ℕ) → g < scan .head .gates → scan .head .first + g * scan .head .spacing ≤ 46000000
+  gate-range g h = centres-most (scan .head .gates) (scan .head .first) (scan .head .spacing) g (good .centres) h
+
+  pub rays-span : RaysSpan (scan .head .gates) (scan .head .first) (scan .head .spacing) 0 (scan .azimuths) (lists .ledger)
+  unfolding gatesOf
+  rays-span = record {
+    gates-least = good .gates-least;
+    gates-most = good .gates-most;
+    end-most = omega (arith, good .lengths .ledger-length, ap (λ (n : ℕ). n * scan .head .gates) (good .lengths .azimuths-length));
+    ranges = gate-range;
+  }
+
+  ledger-length : length (filledLists scan .ledger) ≡ gatesOf (scan .head)
+  unfolding filledLists ledgerOf raysOf gatesOf
+  ledger-length = gates-length _ _ _ _ ∙ regular-gates (scan .head .gates) (scan .azimuths) ∙ ap (λ (n : ℕ). n * scan .head .gates) (good .lengths .azimuths-length)
+
+  surveyed-is : surveyedLedger (surveyOf (scan .head .site) (scan .head .grid)) (scan .head .first) (scan .head .spacing) (regularRays (scan .head .gates) (scan .azimuths)) ≡ filledLists scan .ledger
+  unfolding filledLists ledgerOf raysOf surveyedLedger
+  surveyed-is =
+      gates-same _ _ _ _ (scan .head .gates) azimuthAccepted (scan .azimuths) (good .azimuths-good)
+      (λ azimuth g a h. accepted-entry (scan .head) azimuth (scan .head .first + g * scan .head .spacing) (gate-accepted (scan .head) azimuth g (good .centres) (good .site) (good .grid) a h))
+
+  pub ledger-is : sets (lists .ledger) 0 (surveyedLedger (surveyOf (scan .head .site) (scan .head .grid)) (scan .head .first) (scan .head .spacing) (regularRays (scan .head .gates) (scan .azimuths))) ≡ filledLists scan .ledger
+  ledger-is = rw surveyed-is (sets-whole (lists .ledger) _ (ledger-length ∙ sym (good .lengths .ledger-length)))
+
+  gates-most : gatesOf (scan .head) ≤ 720000
+  unfolding gatesOf
+  gates-most = mul-le-mul (good .rays-most) (good .gates-most)
+
+  pub qualities-most : (k : ℕ) → getD (scan .qualities) k 0 ≤ 100
+  unfolding qualityAccepted
+  qualities-most k = leb-true _ _ (all-at qualityAccepted (scan .qualities) refl (good .qualities-good) k)
+
+  -- ---- the sums, over the ledger that was written
+
+  module _ {written : List ℕ} (ledger-written : written ≡ filledLists scan .ledger) where
+    written-length : length written ≡ gatesOf (scan .head)
+    written-length = ap length ledger-written ∙ ledger-length
+
+    pub addable : ((k : ℕ) → getD (scan .values) k 0 ≤ 65535) → Addable (scan .head .weighting) written (scan .values) (scan .qualities) (cleared (lists .sums))
+    unfolding cleared
+    addable small =
+        let most : GatesMost written (scan .values) (scan .qualities) = record { gates-most = rw written-length gates-most; values-most = small; qualities-most = qualities-most } in
+        record {
+          values-length = good .lengths .values-length ∙ sym written-length;
+          qualities-length = good .lengths .qualities-length ∙ sym written-length;
+          quality-sums-length = simp length-replicate (good .lengths .quality-sums-length ∙ sym (good .lengths .counts-length));
+          value-sums-length = simp length-replicate (good .lengths .value-sums-length ∙ sym (good .lengths .counts-length));
+          counts-fit = λ cell. omega (arith, zeros-at (length (lists .sums .counts)) cell, count-fits most cell);
+          quality-sums-fit = λ cell. omega (arith, zeros-at (length (lists .sums .qualitySums)) cell, quality-sum-fits most cell);
+          value-sums-fit = λ cell. omega (arith, zeros-at (length (lists .sums .valueSums)) cell, value-sum-fits most (scan .head .weighting) cell);
+        }
+
+    pub sums-are : addedSums (scan .head .weighting) written (scan .values) (scan .qualities) (cleared (lists .sums)) ≡ filledLists scan .sums
+    unfolding filledLists
+    sums-are =
+        let lengths = good .lengths in
+        rw ledger-written (from-nothing _ _ _ _ (lists .sums) (lengths .counts-length) (lengths .quality-sums-length) (lengths .value-sums-length))
+
+  -- ---- the published cells, of the sums that were written
+
+  module _ {sums : Sums} (sums-written : sums ≡ filledLists scan .sums) where
+    pub publishable : Publishable sums (lists .cells)
+    unfolding filledLists talliedSums
+    publishable =
+        let m = sym (good .lengths .means-length) in
+        rw sums-written (record {
+          counts-length = table-length _ (cellsOf (scan .head)) ∙ m;
+          quality-sums-length = table-length _ (cellsOf (scan .head)) ∙ m;
+          value-sums-length = table-length _ (cellsOf (scan .head)) ∙ m;
+          cell-qualities-length = good .lengths .cell-qualities-length ∙ m;
+        })
+
+    means-are : ((k : ℕ) → getD (scan .values) k 0 ≤ 65535) → publishedCells (scan .head .weighting) sums (length (lists .cells .means)) .means ≡ filledLists scan .cells .means
+    unfolding filledLists talliedSums publishedCells
+    means-are small =
+        let n = cellsOf (scan .head) in
+        rw (sums-written, good .lengths .means-length) (table-ext _ _ n (λ c h.
+        rw (table-at _ n c h, table-at _ n c h, table-at _ n c h) (mean-published _ (scan .values) (scan .qualities) c (scan .head .weighting) small)))
+
+    qualities-are : publishedCells (scan .head .weighting) sums (length (lists .cells .means)) .qualities ≡ filledLists scan .cells .qualities
+    unfolding filledLists talliedSums publishedCells
+    qualities-are =
+        let n = cellsOf (scan .head) in
+        rw (sums-written, good .lengths .means-length) (table-ext _ _ n (λ c h.
+        rw (table-at _ n c h, table-at _ n c h) (quality-published _ (scan .values) (scan .qualities) c qualities-most)))
+
+    pub cells-are : ((k : ℕ) → getD (scan .values) k 0 ≤ 65535) → publishedCells (scan .head .weighting) sums (length (lists .cells .means)) ≡ filledLists scan .cells
+    cells-are small i = record { means = means-are small i; qualities = qualities-are i }

@@ -1,0 +1,142 @@
+-- `accepted_remap::accepted_remap` meets its contract, step by step: survey, ledger, cleared sums, tally, published cells. Assumes nothing.
+use mathlib.Core.Path.{_≡_, ap, _∙_}
+use Prim.Native.Nat.{ℕ, _≤_}
+use native.Mathlib.Omega.{arith}
+use lib.ListN.{getD}
+use Rattle.tally.specs.LentSums.{Sums, Cells}
+use Rattle.scan.specs.LentLists.{Lists, listsHeld}
+use Rattle.accepted_remap.specs.FilledLists.{filledLists}
+use Rattle.scan.specs.Scan.{Scan, scanHeld}
+use Rattle.tally.specs.Tally.{cleared, addedSums}
+use Rattle.scan.proofs.AcceptedScan.{AcceptedScan, accepted-scan}
+use Rattle.accepted_remap.proofs.AcceptedRemap.{is-surveyed, rays-span, ledger-is, addable, sums-are, publishable, cells-are}
+use borrow.Author.Needs.{needs}
+use Rattle.accepted_remap.proofs.accepted_remap.Statement.{statement}
+use Rattle.accepted_remap.proofs.accepted_remap.Tie as tie
+
+-- ---- from each step back to the one before it
+
+abbrev at-start : tie.After-survey-of → tie.Start
+at-start c = c .before .before .before .before .before .before .before .before .before .before .before
+
+abbrev at-survey : tie.After-scan-ledger → tie.After-survey-of
+at-survey c = c .before .before
+
+abbrev at-ledger : tie.After-clear-sums → tie.After-scan-ledger
+at-ledger c = c .before .before .before .before .before .before
+
+abbrev at-clear : tie.After-tally → tie.After-clear-sums
+at-clear c = c .before .before .before .before .before .before .before .before .before .before .before
+
+abbrev at-tally : tie.After-publish → tie.After-tally
+at-tally c = c .before .before .before .before .before .before .before .before .before .before .before .before
+
+abbrev start : tie.After-clear-sums → tie.Start
+start c = at-start (at-survey (at-ledger c))
+
+-- ---- what came in
+
+abbrev scan : tie.Start → Scan
+scan s = scanHeld (s .args .head) (s .args .azimuths) (s .args .values) (s .args .qualities)
+
+abbrev lists : tie.Start → Lists
+lists s = listsHeld (s .args .ledger) (s .args .counts) (s .args .quality-sums) (s .args .value-sums) (s .args .means) (s .args .cell-qualities)
+
+good : (s : tie.Start) → AcceptedScan (scan s) (lists s)
+good s = accepted-scan (scan s) (lists s) (s .pre)
+
+-- a value of 16 bits
+value-most : (c : tie.After-survey-of) (k : ℕ) → getD (at-start c .args .values .now) k 0 ≤ 65535
+value-most c k = omega (arith, c .before .before .before .before .before .before .before .before .before .shared-slice-known2 .given k)
+
+-- ---- what each step leaves
+
+abbrev sums-cleared : tie.After-clear-sums → Sums
+sums-cleared c = let last = c .clear-sums .last in record { counts = last .0; qualitySums = last .1 .0; valueSums = last .1 .1 .0 }
+
+abbrev sums-added : tie.After-tally → Sums
+sums-added c = let last = c .tally .last .1 .1 .1 .1 in record { counts = last .0; qualitySums = last .1 .0; valueSums = last .1 .1 .0 }
+
+abbrev cells-published : tie.After-publish → Cells
+cells-published c = let last = c .publish .last .1 .1 .1 .1 in record { means = last .0; qualities = last .1 .0 }
+
+ledger-written : (c : tie.After-scan-ledger) → c .scan-ledger .last .1 .1 .1 .1 .1 .0 ≡ filledLists (scan (at-start (at-survey c))) .ledger
+ledger-written c = rw (at-survey c .survey-of .ensures) at (c .scan-ledger .ensures) ∙ ledger-is (good (at-start (at-survey c)))
+
+cleared-are : (c : tie.After-clear-sums) → sums-cleared c ≡ cleared (lists (start c) .sums)
+cleared-are c = c .clear-sums .ensures
+
+sums-written : (c : tie.After-tally) → sums-added c ≡ filledLists (scan (start (at-clear c))) .sums
+sums-written c =
+    let a = start (at-clear c) .args in
+    c .tally .ensures
+    ∙ ap (addedSums (a .head .weighting) _ (a .values .now) (a .qualities .now)) (cleared-are (at-clear c))
+    ∙ sums-are (good (start (at-clear c))) (ledger-written (at-ledger (at-clear c)))
+
+cells-written : (c : tie.After-publish) → cells-published c ≡ filledLists (scan (start (at-clear (at-tally c)))) .cells
+cells-written c =
+    let t = at-tally c in
+    c .publish .ensures ∙ cells-are (good (start (at-clear t))) (sums-written t) (value-most (at-survey (at-ledger (at-clear t))))
+
+survey-of-requires : tie.Need-survey-of-requires
+survey-of-requires c κs = let g = good (c .before .before .before .before .before .before .before .before .before .before) in (g .site, g .grid)
+
+scan-ledger-requires : tie.Need-scan-ledger-requires
+scan-ledger-requires c κs =
+    let s = c .before .before .before .before .before .before .before .before .before .before .before .before in
+    (rw (c .before .survey-of .ensures) (is-surveyed (good s)), rays-span (good s))
+
+clear-sums-requires : tie.Need-clear-sums-requires
+clear-sums-requires c κs = search needs
+
+tally-requires : tie.Need-tally-requires
+tally-requires c κs =
+    let cleared-there = c .before .before .before .before .before .before .before .before .before .before in
+    let s = start cleared-there in
+    rw (cleared-are cleared-there) (addable (good s) (ledger-written (at-ledger cleared-there)) (value-most (at-survey (at-ledger cleared-there))))
+
+publish-requires : tie.Need-publish-requires
+publish-requires c κs =
+    let t = c .before .before .before .before .before .before .before .before .before .before .before in
+    publishable (good (start (at-clear t))) (sums-written t)
+
+same-length : tie.Need-same-length
+same-length c = search needs
+
+same-length-2 : tie.Need-same-length-2
+same-length-2 c = search needs
+
+same-length-3 : tie.Need-same-length-3
+same-length-3 c = search needs
+
+same-length-4 : tie.Need-same-length-4
+same-length-4 c = search needs
+
+same-length-5 : tie.Need-same-length-5
+same-length-5 c = search needs
+
+same-length-6 : tie.Need-same-length-6
+same-length-6 c = search needs
+
+returns : tie.Need-returns
+returns c =
+    let p = c .before .before .before .before in
+    let t = at-tally p in
+    λ i. record { ledger = ledger-written (at-ledger (at-clear t)) i; sums = sums-written t i; cells = cells-written p i }
+
+pub accepted-remap-spec : {M : Type 1} → statement M
+accepted-remap-spec =
+    tie.close
+    (tie.spec
+    survey-of-requires
+    scan-ledger-requires
+    clear-sums-requires
+    tally-requires
+    publish-requires
+    same-length
+    same-length-2
+    same-length-3
+    same-length-4
+    same-length-5
+    same-length-6
+    returns)

@@ -1,0 +1,2 @@
+pub mod GivenWords
+pub mod GivenGate
