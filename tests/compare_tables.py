@@ -4,11 +4,13 @@ from pathlib import Path
 
 from second_program import sine
 
-SOURCE = Path(__file__).resolve().parent.parent / "crates" / "sine_tables" / "src" / "lib.rt"
+CRATES = Path(__file__).resolve().parent.parent / "crates"
+CRATE = {"S": "coarse_sines", "F": "fine_sines", "G": "fine_sines"}
 
 
 def source_table(name):
-    body = re.search(rf"^const {name}: \[u32; (\d+)\] = \[(.*?)\];", SOURCE.read_text(), re.M | re.S)
+    source = CRATES / CRATE[name] / "src" / "lib.rt"
+    body = re.search(rf"^const {name}: \[u32; (\d+)\] = \[(.*?)\];", source.read_text(), re.M | re.S)
     entries = [int(word) for word in re.findall(r"\d+", body.group(2))]
     assert len(entries) == int(body.group(1)), name
     return entries

@@ -1,7 +1,7 @@
 // The scan record. The answer is 0, with what is lent written, or the refusal number, with all that is lent as it came in.
+use c_answers::answer_field;
 use c_answers::answer_head;
 use c_answers::answer_size;
-use c_answers::read_number;
 use c_structs::head_of;
 ghost use lib.ListN.{length};
 ghost use Rattle.refusal.specs.Answer.{Answers};
@@ -58,14 +58,7 @@ pub extern "C" fn uldrevin_record_field(
         let given = now (bytes .entry) in
         ⌜ Answers (headRefusal given) (record { start = fieldPlace given number; size = length (fieldPart given number) }) (lentField start size) r ⌝ }
 {
-    let refusal = read_number(record_reader::read_head(bytes));
-    if refusal != 0 {
-        return refusal;
-    }
-    let field = number as usize;
-    *start = record_reader::field_place(bytes, field) as u64;
-    *size = record_reader::field(bytes, field).len() as u64;
-    0
+    answer_field(bytes, number, start, size)
 }
 
 // ---- as written
