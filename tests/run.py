@@ -33,7 +33,9 @@ COMPARISONS = (
 WITHOUT_THE_LIBRARY = ("compare_programs",)
 
 # What the prover says where an edit no longer fits the proof file, and so shows nothing of the contract.
-UNFIT = re.compile(r"has no `Need-|has no `Tie`|no declaration named|\bParse\b|\bScope\b|is not in scope")
+UNFIT = re.compile(
+    r"has no `Need-|has no `Tie`|no declaration named|\bParse\b|\bScope\b|is not in scope|no equation of the list has an instance"
+)
 
 
 class Count:
