@@ -2,16 +2,17 @@
  * Uldrevin: radar gates to cells of the American HRAP mesh or the German RADOLAN raster, in whole numbers.
  *
  * Link with target/staticlib/libuldrevin.a or target/libuldrevin.so, which `make library` builds for x86-64 Linux. Each function here is
- * proved to follow the rules ("document 01") for every number that its parameters, structs and lists can hold, where the pointers are as
- * said under "Pointers"; docs/STATEMENTS.md lists what is proved. A wider number that is passed for a narrower one, such as one of 64 bits
- * for the number of a field, is cut by C before the call, and the answer is that of what is left.
+ * proved to follow the rules ("document 01", and "document 02" for a sweep) for every number that its parameters, structs and lists can
+ * hold, where the pointers are as said under "Pointers"; docs/STATEMENTS.md lists what is proved. A wider number that is passed for a
+ * narrower one, such as one of 64 bits for the number of a field, is cut by C before the call, and the answer is that of what is left.
  *
  * Units. Angles are ten-thousandths of a degree, lengths are centimetres. Azimuths are clockwise from north, longitudes east positive.
  *
  * Answers. Every function but the sine and the cosine answers 0 when it is done, or a refusal number. No number need be checked first:
  * every number in a struct has an answer, and so have the azimuth and the range of a single gate. One that is out of bounds is refused by
  * its own rule, whatever its size and sign. After a refusal everything that was lent for output holds what it held before. The lowest
- * number that applies is given, but for records, which are checked from the front:
+ * number that applies is given, but for records, which are checked from the front, and for a sweep, whose three functions each name their
+ * own order:
  *
  *    1  the number of rays is not 1 to 720
  *    2  the number of gates in a ray is not 1 to 1,000
@@ -27,12 +28,17 @@
  *   14  bytes stand after field 7 of the record
  *   15  the scan has over 32,767 gates, too many for a record
  *   16  the buffer is shorter than the record
+ *   17  more rays than were announced
+ *   18  rays are missing
+ *   19  the sweep is closed
+ *   31  a count or sum of a cell would pass its width
  *
  * Pointers. They are not checked. A struct or a single number is lent as a pointer to it, a list as a pointer to its first number and its
- * length in numbers. Each pointer, those to cell, x, y, a head that is read, start and length too, is aligned for its type and never null,
- * not even with the length 0, and points to one struct or number, or to as many numbers as the length says. What is lent for output
- * overlaps nothing else that is lent to the same call. Nothing is kept after the call, and nothing is allocated; calls from several threads
- * do not disturb each other, where none of them is lent for output what another is lent.
+ * length in numbers. Each pointer, those to cell, x, y, a head that is read, a sweep, start and length too, is aligned for its type and
+ * never null, not even with the length 0, and points to one struct or number, or to as many numbers as the length says. What is lent for
+ * output overlaps nothing else that is lent to the same call; a sweep is lent for output to each of its functions. Nothing is kept after
+ * the call, and nothing is allocated; calls from several threads do not disturb each other, where none of them is lent for output what
+ * another is lent.
  */
 #ifndef ULDREVIN_H
 #define ULDREVIN_H
@@ -75,7 +81,7 @@ struct uldrevin_grid {
     int64_t kind;    /* ULDREVIN_KIND_RADOLAN or ULDREVIN_KIND_HRAP */
     int64_t x;       /* RADOLAN: the south-west corner's x, -2,000,000,000 to 2,000,000,000; HRAP: the first column I, -10,000 to 10,000 */
     int64_t y;       /* RADOLAN: the corner's y; HRAP: the first row J; with the limits of x */
-    int64_t side;    /* RADOLAN: of a cell, 10,000 to 10,000,000; HRAP: plays no part in a call, and is 476,250 in a head that is read */
+    int64_t side;    /* RADOLAN: of a cell, 10,000 to 10,000,000; HRAP: plays no part in a call, and is 476,250 where it is written */
     int64_t columns; /* 1 to 1,500 */
     int64_t rows;    /* 1 to 1,500 */
 };
@@ -88,7 +94,7 @@ struct uldrevin_scan {
     int64_t first;   /* 0 to 46,000,000, which the last centre does not exceed either, else refused by 3 */
     int64_t spacing; /* 1 to 1,000,000, else refused by 3 */
     struct uldrevin_grid grid;
-    int64_t weighting; /* 0 plain, any other number by quality; 0 or 1 in a head that is read */
+    int64_t weighting; /* 0 plain, any other number by quality; 0 or 1 where it is written */
 };
 
 /*
@@ -122,6 +128,73 @@ uint32_t uldrevin_remap(const struct uldrevin_scan *scan,
                         uint64_t *value_sums, size_t value_sums_length,
                         uint16_t *means, size_t means_length,
                         uint8_t *cell_qualities, size_t cell_qualities_length);
+
+/*
+ * A sweep: a scan that is fed ray by ray while the antenna turns. It is opened with the numbers of the scan, takes one ray or several at a
+ * time, and is closed. Its lists are as long as those of the whole scan from the start. While a caller hands on the latest sweep and
+ * untouched lists, the ledger of the rays taken, the sums, and after closing the cells, are those that uldrevin_remap gives for the whole
+ * scan of these rays, however they were divided. A group of rays with one bad ray is refused whole, and the sweep goes on without it.
+ *
+ * It is plain numbers, which a caller may keep, copy or alter: they are tested again at each call, and a call that is done writes them all.
+ */
+struct uldrevin_sweep {
+    struct uldrevin_scan scan; /* as opened; its rays are those announced */
+    int64_t taken;             /* the rays taken so far, at most those announced, else refused by 17 */
+    int64_t closed;            /* 0 open, any other number closed; 0 or 1 where it is written */
+};
+
+/*
+ * Opens a sweep. In comes:
+ *   scan            with the number of rays that will be taken; not the scan inside the sweep that is lent
+ * Out go; what they held before plays no part:
+ *   counts          one a cell, columns x rows: 0
+ *   quality_sums    one a cell: 0
+ *   value_sums      one a cell: 0
+ *   sweep           the scan's numbers, no ray taken, not closed
+ * Refusals, in this order: 1 to 6.
+ */
+uint32_t uldrevin_sweep_open(const struct uldrevin_scan *scan,
+                             uint32_t *counts, size_t counts_length,
+                             uint32_t *quality_sums, size_t quality_sums_length,
+                             uint64_t *value_sums, size_t value_sums_length,
+                             struct uldrevin_sweep *sweep);
+
+/*
+ * Takes one ray or several, which follow those taken before. In come, ray by ray:
+ *   azimuths        one a ray, for at least one ray
+ *   values          one a gate, azimuths_length x gates
+ *   qualities       one a gate, azimuths_length x gates, each 0 to 100
+ * Both in and out go:
+ *   sweep           its taken grows by these rays
+ *   ledger          one a gate of all rays announced, rays x gates: the entries of these rays, from taken x gates on; all others stay
+ *   counts          one a cell, columns x rows: grows by the measured gates of these rays in it
+ *   quality_sums    one a cell: grows by their qualities
+ *   value_sums      one a cell: grows by their values, each times its quality where weighted by quality
+ * Refusals, in this order: 19; 17 where these rays and those taken are more than were announced; 1 to 5 for the numbers of the sweep; 6,
+ * also for no rays; 7; 8; 31, which only a sweep or sums that a caller has altered can meet.
+ */
+uint32_t uldrevin_sweep_take(struct uldrevin_sweep *sweep,
+                             const uint32_t *azimuths, size_t azimuths_length,
+                             const uint16_t *values, size_t values_length,
+                             const uint8_t *qualities, size_t qualities_length,
+                             uint32_t *ledger, size_t ledger_length,
+                             uint32_t *counts, size_t counts_length,
+                             uint32_t *quality_sums, size_t quality_sums_length,
+                             uint64_t *value_sums, size_t value_sums_length);
+
+/*
+ * Closes a sweep that has taken all its rays, and publishes its cells. In come counts, quality_sums and value_sums, one a cell. Out go:
+ *   sweep           it is closed, and takes no more rays
+ *   means           one a cell, as uldrevin_remap gives them; where sums that a caller has altered give more than 65,533, ULDREVIN_NO_MEAN
+ *   cell_qualities  one a cell, as uldrevin_remap gives them; where such sums give more than 100, 100
+ * Refusals, in this order: 19; 17 where more rays are taken than were announced; 1 to 5 for the numbers of the sweep; 18; 6.
+ */
+uint32_t uldrevin_sweep_close(struct uldrevin_sweep *sweep,
+                              const uint32_t *counts, size_t counts_length,
+                              const uint32_t *quality_sums, size_t quality_sums_length,
+                              const uint64_t *value_sums, size_t value_sums_length,
+                              uint16_t *means, size_t means_length,
+                              uint8_t *cell_qualities, size_t cell_qualities_length);
 
 /*
  * Checks a scan record and gives its head. record: its bytes, of any length and content. scan: the head, every number of it written.

@@ -1,4 +1,4 @@
-"""A minute of the comparison at scale: random and edge gates, scans and damaged records, library against plain program.
+"""A minute of the comparison at scale, library against plain program: random and edge gates, scans, sweeps, damaged records.
 
     python3 tests/compare_at_scale.py [SEED]
 

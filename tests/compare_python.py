@@ -1,4 +1,4 @@
-"""The Python binding in its two forms, without numpy and with it: its doctests, its checks and the storm example.
+"""The Python binding in its two forms, without numpy and with it: its doctests, its checks, and the examples storm and turning.
 
     python3 tests/compare_python.py
 
@@ -9,19 +9,28 @@ import subprocess
 import sys
 import tempfile
 import time
+from itertools import takewhile
 from pathlib import Path
 from typing import NamedTuple
 
 ROOT = Path(__file__).resolve().parent.parent
 BINDING = ROOT / "bindings" / "python"
-STORM = ROOT / "examples" / "storm.py"
+EXAMPLES = ROOT / "examples"
 PATIENCE = 120  # seconds for one process
 CANDIDATES = (sys.executable, "/usr/bin/python3")  # where numpy is looked for
 
 WITHOUT_NUMPY = "import sys; sys.modules['numpy'] = None; "  # an import of it fails
 DOCTESTS = "import doctest, sys; sys.path.insert(0, sys.argv[1]); import uldrevin; print(*doctest.testmod(uldrevin))"
-STORM_RUN = "import runpy, sys; del sys.argv[0]; runpy.run_path(sys.argv[0], run_name='__main__')"
+EXAMPLE_RUN = (
+    f"import runpy, sys; sys.path.insert(0, {str(EXAMPLES)!r}); del sys.argv[0]; runpy.run_path(sys.argv[0], run_name='__main__')"
+)
 NO_PICTURE = "matplotlib is not here; install python3-matplotlib to draw the pictures"
+
+# A whole scan that gives the counts as its means.
+OTHER_MEANS = (
+    f"import sys; sys.path.insert(0, {str(BINDING)!r}); import uldrevin; remap = uldrevin.remap; "
+    "uldrevin.remap = lambda *scan: (whole := remap(*scan))._replace(means=whole.counts); "
+)
 
 
 class Form(NamedTuple):
@@ -70,7 +79,11 @@ def check_lines(form):
     return closing or "not all checks", [*told, *done.stderr.splitlines(), f"it ended with status {done.returncode}"]
 
 
-# The storm example.
+# The examples.
+
+
+def example(form, name, *arguments, before=""):
+    return run([form.interpreter, "-c", form.before + before + EXAMPLE_RUN, str(EXAMPLES / name), *arguments])
 
 
 def worked_again(text):
@@ -86,13 +99,31 @@ def storm_lines(form):
     """Its numbers follow from the gates that it lists, and it draws the picture or says that it cannot."""
     with tempfile.TemporaryDirectory() as folder:
         picture = Path(folder) / "storm.png"
-        done = run([form.interpreter, "-c", form.before + STORM_RUN, str(STORM), str(picture)])
+        done = example(form, "storm.py", str(picture))
         drawn = picture.exists() and picture.read_bytes().startswith(b"\x89PNG")
     lines = [f"`{line}` is not printed" for line in worked_again(done.stdout) if line not in done.stdout.splitlines()]
     if done.returncode != 0:
         lines.append(f"it ended with status {done.returncode} and {done.stderr[-200:]}")
     if drawn == (NO_PICTURE in done.stdout):
         lines.append("it drew the picture and says that it cannot" if drawn else "it neither drew the picture nor says that it cannot")
+    return lines
+
+
+def shown(command):
+    """The lines that examples/README.md shows below a command."""
+    _, text = (EXAMPLES / "README.md").read_text().split(f"    $ {command}\n")
+    return [line[4:] for line in takewhile(lambda line: line.startswith("    "), text.splitlines())]
+
+
+def turning_lines(form):
+    """It prints what its README shows. Where a list is not that of the whole scan, it names it, and its status is 1."""
+    good = shown("python3 examples/turning.py")
+    different = [*good[:-1], "other than those of the whole scan: means"]
+    lines = []
+    for before, expected, status in (("", good, 0), (OTHER_MEANS, different, 1)):
+        done = example(form, "turning.py", before=before)
+        if (done.stdout.splitlines(), done.returncode) != (expected, status):
+            lines += [*done.stdout.splitlines(), f"it ended with status {done.returncode} and {done.stderr[-200:]}, expected {expected}"]
     return lines
 
 
@@ -103,6 +134,7 @@ def comparisons():
         closing, lines = check_lines(form)
         yield f"the Python binding: {closing}", lines
         yield f"examples/storm.py {form.words}", storm_lines(form)
+        yield f"examples/turning.py {form.words}", turning_lines(form)
 
 
 def main():

@@ -61,7 +61,7 @@ def functions():
 
 # Structs. Each has a name, and a type and a name for each field, in the words of its language.
 
-STRUCTS = ("site", "grid", "scan")
+STRUCTS = ("site", "grid", "scan", "sweep")
 COMMON = {"int64_t": "i64", c_int64.__name__: "i64"} | {
     word: name for name in STRUCTS for word in (f"uldrevin_{name}", f"{name.capitalize()}Numbers", f"_{name.capitalize()}")
 }
@@ -80,7 +80,7 @@ def rust_structs():
 
 
 def python_structs():
-    for struct in (uldrevin._Site, uldrevin._Grid, uldrevin._Scan):
+    for struct in (uldrevin._Site, uldrevin._Grid, uldrevin._Scan, uldrevin._Sweep):
         yield struct.__name__, [(held.__name__, field) for field, held in struct._fields_]
 
 
@@ -115,7 +115,7 @@ def python_sentences():
     return [(str(number), sentence) for number, sentence in uldrevin.SENTENCES.items()]
 
 
-NUMBERS = [*range(1, 9), *range(11, 17)]  # document 01's refusals
+NUMBERS = [*range(1, 9), *range(11, 20), 31]  # the refusals of document 01, and of document 02 so far
 
 
 def sentences():

@@ -1,6 +1,7 @@
 /*
  * The library as a C program calls it: each function of include/uldrevin.h, done and refused, with what is lent looked at each time, and
- * each number of the structs at its place. The numbers expected are document 01's own examples, and the bytes those of docs/RECORD.md.
+ * each number of the structs at its place. The numbers expected are document 01's own examples, for a sweep those of the whole scan, and the
+ * bytes those of docs/RECORD.md.
  */
 #include <inttypes.h>
 #include <stdio.h>
@@ -200,6 +201,253 @@ static void scans(void)
     check("scan with a quality of 101", remap_lists(&hrap, azimuths, bad_quality, 2, &l) == 8 && same_lists(&l, &held));
 }
 
+/* ---- sweeps of two rays of two gates on two cells */
+
+struct rays {
+    uint32_t azimuths[2];
+    uint16_t values[4];
+    uint8_t qualities[4];
+};
+static const struct rays good = {{0, 900000}, {1, 7, 3, ULDREVIN_NO_ECHO}, {90, 10, 60, 40}};
+
+/* A sweep and its lists. They fill the struct, so that all of it can be compared. */
+struct swept {
+    struct uldrevin_sweep sweep;
+    uint64_t value_sums[2];
+    uint32_t ledger[4], counts[2], quality_sums[2];
+    uint16_t means[2];
+    uint8_t cell_qualities[2], behind[2];
+};
+
+static struct swept held_swept(void)
+{
+    struct swept held;
+    memset(&held, 0xA5, sizeof held);
+    return held;
+}
+
+static int same_swept(const struct swept *one, const struct swept *other)
+{
+    return memcmp(one, other, sizeof *one) == 0;
+}
+
+/* The lengths of the lists that are lent, in the order of the parameters. */
+static const size_t open_lengths[3] = {2, 2, 2}, close_lengths[5] = {2, 2, 2, 2, 2};
+
+static uint32_t open_with(const struct uldrevin_scan *scan, struct swept *s, const size_t *n)
+{
+    return uldrevin_sweep_open(scan, s->counts, n[0], s->quality_sums, n[1], s->value_sums, n[2], &s->sweep);
+}
+
+static uint32_t open_sweep(const struct uldrevin_scan *scan, struct swept *s)
+{
+    return open_with(scan, s, open_lengths);
+}
+
+static uint32_t take_with(struct swept *s, const struct rays *r, size_t first, const size_t *n)
+{
+    return uldrevin_sweep_take(&s->sweep, r->azimuths + first, n[0], r->values + 2 * first, n[1], r->qualities + 2 * first, n[2],
+                               s->ledger, n[3], s->counts, n[4], s->quality_sums, n[5], s->value_sums, n[6]);
+}
+
+/* Takes some of the rays, the first of them by its place among both. */
+static uint32_t take(struct swept *s, const struct rays *r, size_t first, size_t rays)
+{
+    const size_t n[7] = {rays, 2 * rays, 2 * rays, 4, 2, 2, 2};
+    return take_with(s, r, first, n);
+}
+
+static uint32_t close_with(struct swept *s, const size_t *n)
+{
+    return uldrevin_sweep_close(&s->sweep, s->counts, n[0], s->quality_sums, n[1], s->value_sums, n[2], s->means, n[3],
+                                s->cell_qualities, n[4]);
+}
+
+static uint32_t close_sweep(struct swept *s)
+{
+    return close_with(s, close_lengths);
+}
+
+static struct uldrevin_scan of_two_rays(const struct uldrevin_scan *scan)
+{
+    struct uldrevin_scan both = *scan;
+    both.rays = 2;
+    return both;
+}
+
+/* A sweep that has taken some of the good rays. */
+static struct swept sweep_with(const struct uldrevin_scan *scan, size_t rays)
+{
+    const struct uldrevin_scan both = of_two_rays(scan);
+    struct swept s = held_swept();
+    check("sweep opened", open_sweep(&both, &s) == 0);
+    if (rays != 0)
+        check("rays taken", take(&s, &good, 0, rays) == 0);
+    return s;
+}
+
+/* The rays one by one, and both at once, give what the whole scan gives. */
+static void sweeps(void)
+{
+    const struct swept held = held_swept();
+    const struct uldrevin_scan grids[] = {of_two_rays(&hrap), of_two_rays(&radolan)};
+    for (size_t k = 0; k < LENGTH(grids); k++) {
+        struct swept s = sweep_with(&grids[k], 0), expected = held;
+        expected.sweep = (struct uldrevin_sweep){grids[k], .taken = 0, .closed = 0};
+        memset(expected.counts, 0, sizeof expected.counts);
+        memset(expected.quality_sums, 0, sizeof expected.quality_sums);
+        memset(expected.value_sums, 0, sizeof expected.value_sums);
+        check("sweep as opened", same_swept(&s, &expected));
+
+        check("whole scan remapped", uldrevin_remap(&grids[k], good.azimuths, 2, good.values, 4, good.qualities, 4, expected.ledger, 4,
+              expected.counts, 2, expected.quality_sums, 2, expected.value_sums, 2, expected.means, 2, expected.cell_qualities, 2) == 0);
+        check("first ray taken", take(&s, &good, 0, 1) == 0 && s.sweep.taken == 1);
+        check("its ledger", memcmp(s.ledger, expected.ledger, 2 * sizeof *s.ledger) == 0);
+        check("ledger of the ray to come", memcmp(s.ledger + 2, held.ledger + 2, 2 * sizeof *s.ledger) == 0);
+        check("cells before closing", memcmp(s.means, held.means, sizeof s.means) == 0
+              && memcmp(s.cell_qualities, held.cell_qualities, sizeof s.cell_qualities) == 0);
+        check("second ray taken", take(&s, &good, 1, 1) == 0 && s.sweep.taken == 2 && s.sweep.closed == 0);
+        check("sweep closed", close_sweep(&s) == 0);
+        expected.sweep.taken = 2;
+        expected.sweep.closed = 1;
+        check("sweep as the whole scan", same_swept(&s, &expected));
+        struct swept at_once = sweep_with(&grids[k], 2);
+        check("both rays at once", close_sweep(&at_once) == 0 && same_swept(&at_once, &expected));
+    }
+}
+
+/* A group of rays is refused, and everything is as it was. */
+static void take_refused(const char *what, const struct swept *s, const struct rays *r, size_t first, size_t rays, uint32_t rule)
+{
+    struct swept after = *s;
+    check(what, take(&after, r, first, rays) == rule && same_swept(&after, s));
+}
+
+static void close_refused(const char *what, const struct swept *s, uint32_t rule)
+{
+    struct swept after = *s;
+    check(what, close_sweep(&after) == rule && same_swept(&after, s));
+}
+
+/* Each refusal of take and close, with the next in order applying too where it can. */
+static void sweeps_refused(void)
+{
+    struct rays bad_azimuth = good, bad_quality = good;
+    bad_quality.qualities[3] = bad_azimuth.qualities[0] = 101;
+    bad_azimuth.azimuths[1] = 3600000;
+    struct swept none = sweep_with(&hrap, 0), one = sweep_with(&hrap, 1), both = sweep_with(&hrap, 2), closed = both, s;
+    take_refused("no rays", &none, &good, 0, 0, 6);
+    take_refused("azimuth of 360 degrees in a group", &none, &bad_azimuth, 0, 2, 7);
+    take_refused("azimuth of 360 degrees in a ray", &one, &bad_azimuth, 1, 1, 7);
+    take_refused("quality of 101 in a group", &none, &bad_quality, 0, 2, 8);
+    take_refused("quality of 101 in a ray", &one, &bad_quality, 1, 1, 8);
+    take_refused("a ray too many in a group", &one, &bad_azimuth, 0, 2, 17);
+    take_refused("a ray too many", &both, &bad_azimuth, 1, 1, 17);
+    close_refused("closed with no ray", &none, 18);
+    close_refused("closed with one ray", &one, 18);
+    check("sweep closed", close_sweep(&closed) == 0);
+    take_refused("a ray too many, closed", &closed, &bad_azimuth, 1, 1, 19);
+    close_refused("closed again", &closed, 19);
+    s = both;
+    s.sweep.scan.rays = s.sweep.scan.gates = 0;
+    take_refused("a ray too many of no gates", &s, &good, 1, 1, 17);
+    close_refused("more rays than announced, and no gates", &s, 17);
+    s.sweep.scan.rays = 2;
+    s.sweep.taken = 1;
+    take_refused("a ray of no gates", &s, &good, 1, 1, 2);
+    close_refused("one ray of no gates", &s, 2);
+    check("the good ray after all", take(&one, &good, 1, 1) == 0 && same_swept(&one, &both));
+}
+
+/* Each list in its turn is one number short. */
+static void short_sweep_lists(void)
+{
+    const struct uldrevin_scan scan = of_two_rays(&hrap);
+    const struct swept held = held_swept(), none = sweep_with(&hrap, 0), both = sweep_with(&hrap, 2);
+    struct rays bad = good;
+    bad.azimuths[0] = 3600000;
+    struct swept s = held;
+    for (size_t k = 0; k < 3; k++) {
+        size_t n[3] = {2, 2, 2};
+        n[k]--;
+        check(with("open:", "short list", (int64_t)k), open_with(&scan, &s, n) == 6 && same_swept(&s, &held));
+    }
+    s = none;
+    for (size_t k = 0; k < 7; k++) {
+        size_t n[7] = {2, 4, 4, 4, 2, 2, 2};
+        n[k]--;
+        check(with("take:", "short list", (int64_t)k), take_with(&s, &bad, 0, n) == 6 && same_swept(&s, &none));
+    }
+    s = both;
+    for (size_t k = 0; k < 5; k++) {
+        size_t n[5] = {2, 2, 2, 2, 2};
+        n[k]--;
+        check(with("close:", "short list", (int64_t)k), close_with(&s, n) == 6 && same_swept(&s, &both));
+        s.sweep.taken = 1;
+        check(with("close:", "ray missing, short list", (int64_t)k), close_with(&s, n) == 18);
+        s = both;
+    }
+}
+
+/* A count, a quality sum and a value sum of the cell of both rays, which a caller has altered. */
+static struct swept with_sums(size_t rays, uint32_t count, uint32_t quality_sum, uint64_t value_sum)
+{
+    struct swept s = sweep_with(&hrap, rays);
+    s.counts[1] = count;
+    s.quality_sums[1] = quality_sum;
+    s.value_sums[1] = value_sum;
+    return s;
+}
+
+/* The good rays have four gates, qualities of 200 and products of 1 x 90 + 7 x 10 + 3 x 60 in the cell. */
+static void altered_sums(void)
+{
+    static const uint32_t most_count = UINT32_MAX - 4, most_quality = UINT32_MAX - 200;
+    static const uint64_t most_value = UINT64_MAX - 340;
+    struct rays bad_quality = good;
+    bad_quality.qualities[3] = 101;
+    struct swept s = with_sums(0, most_count, most_quality, most_value);
+    check("sums that become full", take(&s, &good, 0, 2) == 0 && s.counts[1] == UINT32_MAX && s.quality_sums[1] == UINT32_MAX
+          && s.value_sums[1] == UINT64_MAX);
+    s = with_sums(0, most_count + 1, 0, 0);
+    take_refused("a count over 32 bits", &s, &good, 0, 2, 31);
+    take_refused("a quality of 101 and a count over 32 bits", &s, &bad_quality, 0, 2, 8);
+    s = with_sums(0, 0, most_quality + 1, 0);
+    take_refused("a quality sum over 32 bits", &s, &good, 0, 2, 31);
+    s = with_sums(0, 0, 0, most_value + 1);
+    take_refused("a value sum over 64 bits", &s, &good, 0, 2, 31);
+    s = with_sums(2, 2, 201, UINT64_C(201) * 65534 - 1);
+    check("a mean of 65,533 and a quality of 100", close_sweep(&s) == 0 && s.means[1] == 65533 && s.cell_qualities[1] == 100);
+    s = with_sums(2, 2, 202, UINT64_C(202) * 65534);
+    check("a mean of 65,534 and a quality of 101", close_sweep(&s) == 0 && s.means[1] == ULDREVIN_NO_MEAN && s.cell_qualities[1] == 100);
+    s = with_sums(2, 0, UINT32_MAX, UINT64_MAX);
+    check("a quality sum without a gate", close_sweep(&s) == 0 && s.means[1] == ULDREVIN_NO_MEAN && s.cell_qualities[1] == 0);
+    s = with_sums(2, 1, 0, UINT64_MAX);
+    check("a value sum without a quality", close_sweep(&s) == 0 && s.means[1] == ULDREVIN_NO_MEAN && s.cell_qualities[1] == 0);
+}
+
+/* Any number but 0 is closed, and any number of rays taken has an answer. */
+static void altered_states(void)
+{
+    static const int64_t closed[] = {1, 2, -1, BEYOND, INT64_MIN, INT64_MAX};
+    static const int64_t taken[] = {3, -1, BEYOND, BEYOND + 1, 1 - BEYOND, INT64_MIN, INT64_MAX};
+    const struct swept both = sweep_with(&hrap, 2);
+    for (size_t k = 0; k < LENGTH(closed); k++) {
+        struct swept s = both;
+        s.sweep.closed = closed[k];
+        s.sweep.scan.gates = 0;
+        take_refused(with("take:", "closed", closed[k]), &s, &good, 0, 1, 19);
+        close_refused(with("close:", "closed", closed[k]), &s, 19);
+    }
+    for (size_t k = 0; k < LENGTH(taken); k++) {
+        struct swept s = both;
+        s.sweep.taken = taken[k];
+        s.sweep.scan.gates = 0;
+        take_refused(with("take:", "taken", taken[k]), &s, &good, 0, 1, 17);
+        close_refused(with("close:", "taken", taken[k]), &s, 17);
+    }
+}
+
 /* ---- the record of document 01's example */
 
 static const uint8_t example[61] = {
@@ -326,7 +574,7 @@ static const struct number numbers[] = {
     {"weighting", offsetof(struct uldrevin_scan, weighting), 0, 0},
 };
 
-/* The numbers follow each other, 64 bits each, in a scan and in the site and the grid alone. */
+/* The numbers follow each other, 64 bits each, in a scan, in the site and the grid alone, and in a sweep. */
 static void layout(void)
 {
     for (size_t k = 0; k < LENGTH(numbers); k++)
@@ -334,6 +582,10 @@ static void layout(void)
     check("size of a scan", sizeof(struct uldrevin_scan) == LENGTH(numbers) * sizeof(int64_t));
     check("size of a site", sizeof(struct uldrevin_site) == 2 * sizeof(int64_t));
     check("longitude in a site", offsetof(struct uldrevin_site, longitude) == sizeof(int64_t));
+    check("size of a sweep", sizeof(struct uldrevin_sweep) == (LENGTH(numbers) + 2) * sizeof(int64_t));
+    check("scan in a sweep", offsetof(struct uldrevin_sweep, scan) == 0);
+    check("taken in a sweep", offsetof(struct uldrevin_sweep, taken) == LENGTH(numbers) * sizeof(int64_t));
+    check("closed in a sweep", offsetof(struct uldrevin_sweep, closed) == (LENGTH(numbers) + 1) * sizeof(int64_t));
     check("size of a grid", sizeof(struct uldrevin_grid) == 6 * sizeof(int64_t));
     const size_t grid = offsetof(struct uldrevin_scan, grid);
     check("kind in a grid", offsetof(struct uldrevin_grid, kind) == offsetof(struct uldrevin_scan, grid.kind) - grid);
@@ -404,6 +656,11 @@ static void refused(const char *what, const struct uldrevin_scan *scan, uint32_t
     struct lists l = held;
     struct buffer b = unwritten;
     struct place p;
+    struct swept none = held_swept(), s = none;
+    check_call("open", what, open_sweep(scan, &s) == rule && same_swept(&s, &none));
+    none.sweep = s.sweep = (struct uldrevin_sweep){*scan, .taken = 0, .closed = 0};
+    check_call("take", what, take(&s, &good, 0, 1) == rule && same_swept(&s, &none));
+    check_call("close", what, close_sweep(&s) == rule && same_swept(&s, &none));
     check_call("remap", what, remap(scan, &l) == rule && same_lists(&l, &held));
     check_call("write", what, write_record(scan, &b) == rule && same_buffer(&b, &unwritten));
     if (rule == 4 || rule == 5)
@@ -445,11 +702,30 @@ static void wrong_kinds(void)
     }
 }
 
-/* Both scans give the same cells and the same record. */
+/* A sweep of two rays, of which each call is given the scan's numbers anew. */
+static uint32_t sweep_again(const struct uldrevin_scan *scan, struct swept *s)
+{
+    const struct uldrevin_scan given = of_two_rays(scan);
+    uint32_t refusal = open_sweep(&given, s);
+    for (size_t ray = 0; ray < 2 && refusal == 0; ray++) {
+        s->sweep.scan = given;
+        refusal = take(s, &good, ray, 1);
+    }
+    s->sweep.scan = given;
+    return refusal == 0 ? close_sweep(s) : refusal;
+}
+
+/* Both scans give the same cells, the same sweep and the same record. The other has its numbers as they are written. */
 static void same_answers(const char *what, const struct uldrevin_scan *one, const struct uldrevin_scan *other)
 {
+    const struct uldrevin_scan given = of_two_rays(one), written = of_two_rays(other);
     struct lists l = held_lists(), expected_lists = l;
     struct buffer b = held_buffer(), expected_buffer = b;
+    struct swept s = held_swept(), expected = s;
+    check_call("open", what, open_sweep(&given, &s) == 0 && same_scan(&s.sweep.scan, &written));
+    s.sweep.scan = given;
+    check_call("take", what, take(&s, &good, 0, 1) == 0 && same_scan(&s.sweep.scan, &written));
+    check_call("sweep", what, sweep_again(one, &s) == 0 && sweep_again(other, &expected) == 0 && same_swept(&s, &expected));
     check_call("remap", what, remap(one, &l) == 0 && remap(other, &expected_lists) == 0 && same_lists(&l, &expected_lists));
     check_call("write", what,
                write_record(one, &b) == 0 && write_record(other, &expected_buffer) == 0 && same_buffer(&b, &expected_buffer));
@@ -490,6 +766,11 @@ int main(void)
     gates();
     far_gates();
     scans();
+    sweeps();
+    sweeps_refused();
+    short_sweep_lists();
+    altered_sums();
+    altered_states();
     records_written();
     records_read();
     fields();

@@ -30,14 +30,18 @@ def with_margins(letter, numbers):
     return array(letter, [0] * MARGIN) + array(letter, numbers) + array(letter, [0] * MARGIN)
 
 
-def lending(held):
-    """The pointer and the length that the library gets for a list with margins."""
-    length = len(held) - 2 * MARGIN
+def lending(held, step=0):
+    """The pointer and the length that the library gets for a list with margins. A step makes the length wrong."""
+    length = len(held) - 2 * MARGIN + step
     return (HELD[held.typecode] * length).from_buffer(held, MARGIN * held.itemsize), length
 
 
 def lending_all(lists):
     return [part for held in lists for part in lending(held)]
+
+
+def within_margins(held):
+    return held[MARGIN : len(held) - MARGIN].tolist()
 
 
 def given_lists(scan):

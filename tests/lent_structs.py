@@ -1,9 +1,9 @@
-"""Site, grid and scan as the library gets them."""
+"""Site, grid, scan and sweep as the library gets them."""
 from itertools import cycle
 
 from far_numbers import far_from
 from lent_lists import MARGIN
-from library import Grid, Scan, Site
+from library import Grid, Scan, Site, Sweep
 from second_program import record
 from second_program.placement import Hrap
 
@@ -35,3 +35,8 @@ def scan_struct(scan):
 def within(held):
     """The scan, to be written, in the middle of a list with margins."""
     return Scan.from_buffer(held, MARGIN * held.itemsize)
+
+
+def sweep_within(held):
+    """The state of a sweep in the middle of a list with margins."""
+    return Sweep.from_buffer(held, MARGIN * held.itemsize)

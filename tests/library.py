@@ -22,15 +22,20 @@ class Scan(Structure):
     ]
 
 
+class Sweep(Structure):
+    _fields_ = [("scan", Scan), ("taken", c_int64), ("closed", c_int64)]
+
+
 def one_list(held):
     """A list is lent as a pointer and a length."""
     return [POINTER(held), c_size_t]
 
 
-SITE, GRID, SCAN = map(POINTER, (Site, Grid, Scan))
+SITE, GRID, SCAN, SWEEP = map(POINTER, (Site, Grid, Scan, Sweep))
 GATE = [POINTER(c_uint32), POINTER(c_int64), POINTER(c_int64)]  # cell, x and y
 GIVEN = [*one_list(c_uint32), *one_list(c_uint16), *one_list(c_uint8)]
-CELLS = [part for held in (c_uint32, c_uint32, c_uint64, c_uint16, c_uint8) for part in one_list(held)]
+SUMS = [*one_list(c_uint32), *one_list(c_uint32), *one_list(c_uint64)]
+CELLS = [*SUMS, *one_list(c_uint16), *one_list(c_uint8)]
 BYTES = one_list(c_uint8)
 LENGTH = POINTER(c_uint64)
 
@@ -38,6 +43,9 @@ LENGTH = POINTER(c_uint64)
 ARGUMENTS = {
     "uldrevin_place": [SITE, GRID, c_int64, c_int64, *GATE],
     "uldrevin_remap": [SCAN, *GIVEN, *one_list(c_uint32), *CELLS],
+    "uldrevin_sweep_open": [SCAN, *SUMS, SWEEP],
+    "uldrevin_sweep_take": [SWEEP, *GIVEN, *one_list(c_uint32), *SUMS],
+    "uldrevin_sweep_close": [SWEEP, *CELLS],
     "uldrevin_record_head": [*BYTES, SCAN],
     "uldrevin_record_field": [*BYTES, c_uint32, LENGTH, LENGTH],
     "uldrevin_record_read": [*BYTES, SCAN, *GIVEN],

@@ -62,7 +62,7 @@ class Checks:
         """The call raises exactly this kind of error, and its text has these words."""
         try:
             got = call()
-        except (ValueError, TypeError, OverflowError) as error:
+        except (ValueError, TypeError, OverflowError, AttributeError) as error:
             expected = f"expected {kind.__name__} with {words!r}"
             self.note(type(error) is kind and words in str(error), f"{what}: {error!r} was raised, {expected}")
         else:
@@ -259,7 +259,247 @@ def held_arrays(checks):
         checks.equal(f"{what}, the arrays afterwards", meddled.told, ["lengthened"] * 3)
 
 
+# Sweeps.
+
+
+def opened(scan, rays, gates):
+    return uldrevin.Sweep(*scan[:5], rays=rays, gates=gates)
+
+
+def sweep_of(data):
+    """A record's scan and head, and a sweep that is open for its rays."""
+    scan, head = uldrevin.read_record(data), uldrevin.record_head(data)
+    return scan, head, opened(scan, head.rays, head.gates)
+
+
+def some_rays(scan, head, start, end):
+    """The rays from start on, up to the one before end, as flat lists."""
+    gates = slice(start * head.gates, end * head.gates)
+    return flat(scan.azimuths)[start:end], flat(scan.values)[gates], flat(scan.qualities)[gates]
+
+
+def held_by(sweep):
+    return [sweep.taken, sweep.closed, *(flat(getattr(sweep, name)) for name in uldrevin.Remapped._fields)]
+
+
+def part_way(scan, head, taken):
+    """What a sweep holds once it has taken so many rays of a scan, by the whole scan of these rays."""
+    ledger, *sums, means, qualities = plain_lists(uldrevin.remap(*scan[:5], *some_rays(scan, head, 0, taken)))
+    ledger += [OUTSIDE] * (head.gates * (head.rays - taken))
+    return [taken, False, ledger, *sums, [NO_MEAN] * len(means), [0] * len(qualities)]
+
+
+def sweeps(checks):
+    """However its rays are divided, a sweep has the lists of the whole scan."""
+    for name, data in RECORDS:
+        for weighting in (PLAIN, BY_QUALITY):
+            for size in (1, 2, 5, 11, 16):
+                scan, head = uldrevin.read_record(data)._replace(weighting=weighting), uldrevin.record_head(data)
+                sweep = opened(scan, head.rays, head.gates)
+                what = f"{name} by {size} rays, weighting {weighting}"
+                checks.equal(f"{what}, its head", sweep.head, head._replace(weighting=weighting))
+                for start in range(0, head.rays, size):
+                    end = min(start + size, head.rays)
+                    sweep.take(*some_rays(scan, head, start, end))
+                    checks.equal(f"{what}, {end} rays taken", held_by(sweep), part_way(scan, head, end))
+                expected = plain_lists(uldrevin.remap(*scan))
+                checks.equal(f"{what}, closed", plain_lists(sweep.close()), expected)
+                checks.equal(f"{what}, the sweep itself", held_by(sweep), [head.rays, True, *expected])
+
+
+def forms_of_rays(checks):
+    """The first ray by itself and the others together, from lists of every form."""
+    data = RECORDS[0][1]
+    scan, head, _ = sweep_of(data)
+    ([azimuth], *ray), (azimuths, *rays) = some_rays(scan, head, 0, 1), some_rays(scan, head, 1, head.rays)
+    width = head.gates
+    forms = {
+        "flat lists": [(azimuth, *ray), (azimuths, *rays)],
+        "lists of rays": [([azimuth], *([row] for row in ray)), (azimuths, *(rows_of(numbers, width) for numbers in rays))],
+        "one azimuth in a list": [([azimuth], *ray), (azimuths, rows_of(rays[0], width), rays[1])],
+        "arrays": [(azimuth, array("H", ray[0]), array("B", ray[1])), map(array, "IHB", (azimuths, *rays))],
+        "arrays of other types": [(azimuth, *(array("q", row) for row in ray)), (array("q", numbers) for numbers in (azimuths, *rays))],
+        "iterators and bytes": [(azimuth, iter(ray[0]), bytes(ray[1])), (iter(azimuths), iter(rays[0]), bytes(rays[1]))],
+    }
+    if numpy is not None:
+        first, others = ([numbers[part] for numbers in scan[5:]] for part in (0, slice(1, None)))
+        forms["numpy arrays"] = [first, others]
+        forms["numpy arrays of one ray"] = [(numbers[:1] for numbers in scan[5:]), others]
+        forms["numpy arrays by column"] = [first, (others[0], *map(numpy.asfortranarray, others[1:]))]
+        forms["numpy arrays and lists"] = [(azimuth, first[1], ray[1]), (azimuths, others[1], rays[1])]
+        forms["parts of numpy arrays"] = [(first[0], numpy.repeat(first[1], 2)[::2], first[2]), others]
+    for name, (one, several) in forms.items():
+        sweep = opened(scan, head.rays, head.gates)
+        sweep.take(*one)
+        sweep.take(*several)
+        checks.equal(f"a sweep from {name}", plain_lists(sweep.close()), plain_lists(uldrevin.remap(*scan)))
+
+
+def swept_lists(checks):
+    """They are of the kinds that remap gives, and stay the sweep's own."""
+    scan, _, sweep = sweep_of(RECORDS[0][1])
+    whole = uldrevin.remap(*scan)
+    for name, expected in whole._asdict().items():
+        own = getattr(sweep, name)
+        checks.equal(f"the type of a sweep's {name}", type(own), type(expected))
+        if numpy is None:
+            checks.equal(f"the numbers of a sweep's {name}", own.typecode, expected.typecode)
+        else:
+            checks.equal(f"the dtype and shape of a sweep's {name}", (own.dtype, own.shape), (expected.dtype, expected.shape))
+    for name in (*whole._fields, "head", "taken", "closed"):
+        checks.raised(AttributeError, "", f"a sweep's {name}, set", lambda: setattr(sweep, name, getattr(sweep, name)))
+
+
+def fed_sweeps(checks):
+    """After a refused ray the sweep goes on, and so does the generator."""
+    scan, head, sweep = sweep_of(RECORDS[0][1])
+
+    def turning():
+        for ray in range(head.rays):
+            azimuths, values, qualities = some_rays(scan, head, ray, ray + 1)
+            if ray in (0, 7):
+                yield azimuths[0], values, [101] * head.gates
+            yield azimuths[0], values, qualities
+
+    rays = turning()
+    for taken in (0, 7):
+        checks.refused(8, "a bad ray of a generator", lambda: sweep.feed(rays))
+        checks.equal("rays taken before the bad one", sweep.taken, taken)
+    sweep.feed(rays)
+    expected = plain_lists(uldrevin.remap(*scan))
+    checks.equal("a sweep from a generator", plain_lists(sweep.close()), expected)
+    other = opened(scan, head.rays, head.gates)
+    other.feed([some_rays(scan, head, 0, 5), some_rays(scan, head, 5, head.rays)])
+    checks.equal("a sweep from a list of groups", plain_lists(other.close()), expected)
+
+
+class Slow:
+    """Stands in for the library: while it works on one ray, another thread feeds the next."""
+
+    def __init__(self, library, feed):
+        self.library, self.told = library, []
+        self.thread = Thread(target=feed)
+
+    def uldrevin_sweep_take(self, *arguments):
+        self.told.append("begun")
+        if len(self.told) == 1:
+            self.thread.start()
+            self.thread.join(0.2)  # time for the other thread to begin
+        refusal = self.library.uldrevin_sweep_take(*arguments)
+        self.told.append("ended")
+        return refusal
+
+
+def held_rays(checks):
+    """During a call the given arrays are held, and so are the sweep's own, and another thread's ray waits."""
+    library, sweep = uldrevin._library, opened(EXAMPLE, 2, 2)
+    lists = [array(letter, numbers) for letter, numbers in zip("IHB", EXAMPLE[5:])]
+    own = [] if numpy is not None else [sweep.ledger, sweep.counts, sweep.quality_sums, sweep.value_sums]
+    uldrevin._library = meddled = Meddled(library, [*lists, *own])
+    try:
+        sweep.take(*lists)
+    finally:
+        uldrevin._library = library
+    checks.equal("arrays during a take", meddled.told, ["held"] * len([*lists, *own]))
+    meddled = Meddled(library, lists)
+    meddled.lengthen()
+    checks.equal("arrays after a take", meddled.told, ["lengthened"] * 3)
+
+    shared, ray = opened(EXAMPLE, 2, 2), (0, [1, 7], [90, 10])
+    uldrevin._library = slow = Slow(library, lambda: shared.take(*ray))
+    try:
+        shared.take(*ray)
+        slow.thread.join()
+    finally:
+        uldrevin._library = library
+    checks.equal("two threads, one sweep", (slow.told, shared.taken), (["begun", "ended"] * 2, 2))
+
+
 # Refusals.
+
+
+def sweep_refused(checks, number, what, sweep, call):
+    """The call raises this refusal, and the sweep holds what it held."""
+    before = held_by(sweep)
+    checks.refused(number, what, call)
+    checks.equal(f"{what}, the sweep", held_by(sweep), before)
+
+
+def opening_refusals(checks):
+    wrong = {
+        1: {"rays": 0, "gates": 0},
+        2: {"gates": 1_001, "spacing": 0},
+        3: {"spacing": 0, "site": Site(0, 0)},
+        4: {"site": Site(199_999, 0), "grid": Hrap(400, 932, 0, 1)},
+        5: {"grid": Hrap(400, 932, 2, 2**32 - 1)},
+    }
+    good = dict(zip(EXAMPLE._fields[:5], EXAMPLE), rays=1, gates=2)
+    for number, change in [*wrong.items(), (1, {"rays": 2**63 - 1}), (1, {"rays": -1}), (2, {"gates": 2**32 + 2})]:
+        checks.refused(number, f"a sweep with {change}", lambda: uldrevin.Sweep(**(good | change)))
+    checks.raised(ValueError, "rays is 9223372036854775808", "a sweep of 2^63 rays", lambda: uldrevin.Sweep(**good | {"rays": 2**63}))
+    checks.raised(TypeError, "gates has to be a whole number", "2.0 gates", lambda: uldrevin.Sweep(**good | {"gates": 2.0}))
+
+
+def sweep_refusals(checks):
+    """Each refusal before the first ray, between the rays, after the last and after closing."""
+    ray = EXAMPLE[5:]
+    sweep = opened(EXAMPLE, 2, 2)
+    groups = [
+        (6, "no rays", ([], [], [])),
+        (6, "no rays with values", ([], [1], [101])),
+        (6, "a value too few", (3_600_000, [1], [101, 10])),
+        (6, "a quality too many", (0, [1, 7], [90, 10, 101])),
+        (7, "an azimuth of 360 degrees", (3_600_000, [1, 7], [101, 10])),
+        (8, "a quality of 101", (0, [1, NOT_MEASURED], [90, 101])),
+    ]
+    for taken in (0, 1, 2):
+        for number, what, group in groups:
+            expected = 17 if taken == 2 and group[0] != [] else number
+            sweep_refused(checks, expected, f"{what}, {taken} rays taken", sweep, lambda: sweep.take(*group))
+        sweep_refused(checks, 17, f"3 rays, {taken} rays taken", sweep, lambda: sweep.take([3_600_000] * 3, [], [101]))
+        if taken < 2:
+            sweep_refused(checks, 18, f"closed with {taken} rays", sweep, sweep.close)
+            sweep.take(*ray)
+    sweep.close()
+    for _, what, group in groups:
+        sweep_refused(checks, 19, f"{what}, closed", sweep, lambda: sweep.take(*group))
+    sweep_refused(checks, 19, "a good ray, closed", sweep, lambda: sweep.take(*ray))
+    sweep_refused(checks, 19, "closed again", sweep, sweep.close)
+    pair = opened(EXAMPLE, 2, 2)
+    sweep_refused(checks, 8, "two rays, one bad", pair, lambda: pair.take([0, 0], [[1, 7], [1, 7]], [[90, 10], [90, 101]]))
+
+
+def with_sums(*sums):
+    """A sweep for document 01's ray, whose caller has written a count, a quality sum and a value sum to the cell of its gates."""
+    sweep = opened(EXAMPLE, 1, 2)
+    for own, number in zip((sweep.counts, sweep.quality_sums, sweep.value_sums), sums):
+        own[1 if numpy is None else (0, 1)] = number
+    return sweep
+
+
+def altered_sums(checks):
+    """31 just where a sum would pass its width; what is published of sums that no ray gives."""
+    room = (2**32 - 1 - 2, 2**32 - 1 - 100, 2**64 - 1 - 160)
+    for place in range(3):
+        most = [limit if place == k else 0 for k, limit in enumerate(room)]
+        full, over = with_sums(*most), with_sums(*(number + (place == k) for k, number in enumerate(most)))
+        full.take(*EXAMPLE[5:])
+        sums = [flat(own)[1] for own in (full.counts, full.quality_sums, full.value_sums)]
+        checks.equal(f"sums that are just full, from {most}", sums, [most[0] + 2, most[1] + 100, most[2] + 160])
+        sweep_refused(checks, 31, f"one more than {most}", over, lambda: over.take(*EXAMPLE[5:]))
+    published = {
+        (0, 0, 65_533 * 100 - 160): (65_533, 50),
+        (0, 0, 65_534 * 100 - 161): (65_533, 50),
+        (0, 0, 65_534 * 100 - 160): (NO_MEAN, 50),
+        (0, 101, 0): (0, 100),
+        (0, 102, 0): (0, 100),
+        room: (NO_MEAN, 1),
+    }
+    for sums, expected in published.items():
+        sweep = with_sums(*sums)
+        sweep.take(*EXAMPLE[5:])
+        cells = sweep.close()
+        checks.equal(f"published of {sums} and two gates", (flat(cells.means)[1], flat(cells.cell_qualities)[1]), expected)
 
 
 def scan_refusals(checks):
@@ -308,7 +548,7 @@ def refusal_itself(checks):
     """16 cannot be met, since the binding makes the buffer itself."""
     refusal = uldrevin.Refusal(16)
     checks.equal("the text of refusal 16", str(refusal), f"refusal 16: {uldrevin.SENTENCES[16]}")
-    checks.equal("the numbers with a sentence", list(uldrevin.SENTENCES), [*range(1, 9), *range(11, 17)])
+    checks.equal("the numbers with a sentence", list(uldrevin.SENTENCES), [*range(1, 9), *range(11, 20), 31])
     checks.equal("a refusal sent to another process", str(pickle.loads(pickle.dumps(refusal))), str(refusal))
 
 
@@ -415,6 +655,36 @@ def lists_not_taken(checks):
         checks.raised(kind, words, f"remap with {change}", lambda: uldrevin.remap(*scan))
 
 
+def rays_not_taken(checks):
+    sweep = opened(EXAMPLE, 3, 2)
+    wrong = [
+        (TypeError, "azimuths must be a list of whole numbers, and is 0.5", (0.5, [1, 7], [90, 10])),
+        (TypeError, "values must be a list of whole numbers, and is 1", (0, 1, [90, 10])),
+        (ValueError, "azimuths holds -1 at place 0", (-1, [1, 7], [90, 10])),
+        (ValueError, "azimuths holds 4294967296 at place 0", (2**32, [1, 7], [90, 10])),
+        (ValueError, "qualities holds 256 at place 1", (0, [1, 7], [90, 256])),
+        (TypeError, "values must hold whole numbers", (0, [[1, 7]], [90, 10])),
+        (ValueError, "must have the shape (3, 2) for these azimuths, and have (2, 3)", ([0] * 3, [[1, 7, 1], [7, 1, 7]], [90] * 6)),
+        (ValueError, "must have the shape (1, 2) for these azimuths, and have (2, 1)", ([0], [1, 7], [[90], [10]])),
+    ]
+    if numpy is not None:
+        row, qualities = numpy.array([1, 7], "uint16"), numpy.array([90, 10], "uint8")
+        wrong += [
+            (ValueError, "values must have a shape (gates,), and has (1, 2)", (0, row[None], qualities[None])),
+            (ValueError, "values must have a shape (rays, gates), and has (2,)", ([0], row, qualities)),
+            (ValueError, "and have (2, 1)", ([0], row[:, None], qualities[:, None])),
+            (TypeError, "values must have the dtype uint16", (0, row.astype(int), qualities)),
+            (ValueError, "values have the shape (2,) and qualities (1,)", (0, row, qualities[:1])),
+            (ValueError, "one of the sweep's own", (sweep.counts.ravel(), [[1, 7]] * 2, [[90, 10]] * 2)),
+            (ValueError, "one of the sweep's own", (0, sweep.ledger.view("uint16")[0, :2], qualities)),
+        ]
+    else:
+        wrong.append((ValueError, "one of the sweep's own", (sweep.counts, [1, 7] * 2, [90, 10] * 2)))
+    for kind, words, given in wrong:
+        checks.raised(kind, words, f"a sweep given {given}", lambda: sweep.take(*given))
+    checks.equal("the sweep after what it does not take", held_by(sweep), held_by(opened(EXAMPLE, 3, 2)))
+
+
 def arrays_not_taken(checks):
     wrong = [
         (TypeError, "azimuths must have the dtype uint32", {"azimuths": numpy.array([0])}),
@@ -458,7 +728,9 @@ def main():
     checks = Checks()
     for part in (gates, angles, scans, forms_of_lists, kinds_of_lists, held_arrays, scan_refusals, record_refusals, refusal_itself):
         part(checks)
-    for part in (records, fields, numbers_of_64_bits, numbers_not_held, lists_not_taken, libraries):
+    for part in (sweeps, forms_of_rays, swept_lists, fed_sweeps, held_rays, opening_refusals, sweep_refusals, altered_sums):
+        part(checks)
+    for part in (records, fields, numbers_of_64_bits, numbers_not_held, lists_not_taken, rays_not_taken, libraries):
         part(checks)
     if numpy is not None:
         arrays_not_taken(checks)

@@ -25,6 +25,7 @@ COMPARISONS = (
     "compare_record",
     "compare_placement",
     "compare_scan",
+    "compare_sweep",
     "compare_programs",
     "compare_bindings",
     "compare_python",

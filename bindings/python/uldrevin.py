@@ -13,6 +13,8 @@ from the south-west, so that row 0 is the southernmost. Document 01's example, t
 >>> [uldrevin.flat(cells)[1] for cells in (remapped.means, remapped.cell_qualities, remapped.counts)]
 [1, 50, 2]
 
+A Sweep takes the rays of a scan one by one, or some at a time, as the antenna turns.
+
 Lists that come back are numpy arrays where numpy can be imported: of shape (rays, gates) for gates and (rows, columns) for cells.
 Otherwise they are array.array, flat. `flat` makes a plain list of either.
 
@@ -23,7 +25,7 @@ Lists that are given may be
 
 While the library reads a given array.array, no thread can resize it: Python raises BufferError there.
 
-A refusal of document 01 raises Refusal. Anything that the library could not be asked, such as a number beyond 64 bits, or one in a
+A refusal of document 01 or 02 raises Refusal. Anything that the library could not be asked, such as a number beyond 64 bits, or one in a
 list that the list's type does not hold, raises ValueError or TypeError. The shared library is the file that the environment variable
 ULDREVIN_LIBRARY names, or else target/libuldrevin.so of the repository.
 """
@@ -34,6 +36,7 @@ from ctypes import CDLL, POINTER, Structure, c_int64, c_size_t, c_uint32, c_uint
 from math import prod
 from operator import index
 from pathlib import Path
+from threading import Lock
 from typing import Any, NamedTuple
 
 try:
@@ -64,13 +67,17 @@ SENTENCES = {
     14: "bytes stand after field 7 of the record",
     15: "the scan has over 32,767 gates, too many for a record",
     16: "the buffer is shorter than the record",
+    17: "more rays than were announced",
+    18: "rays are missing",
+    19: "the sweep is closed",
+    31: "a count or sum of a cell would pass its width",
 }
 LENGTH_NOT_EXACT = 6
 BUFFER_TOO_SHORT = 16
 
 
 class Refusal(ValueError):
-    """A refusal of document 01, with its number and a sentence on it.
+    """A refusal of document 01 or 02, with its number and a sentence on it.
 
     >>> str(Refusal(7))
     'refusal 7: an azimuth is not 0 to 3,599,999'
@@ -120,7 +127,7 @@ class Placement(NamedTuple):
 
 
 class ScanHead(NamedTuple):
-    """The numbers of a record, without its lists."""
+    """The numbers of a record or a sweep, without its lists."""
 
     site: Site
     rays: int
@@ -155,7 +162,7 @@ class Remapped(NamedTuple):
     cell_qualities: Any
 
 
-# The library. Site, grid and scan are lent as structs of 64-bit numbers, a list as a pointer and a length.
+# The library. Site, grid, scan and sweep are lent as structs of 64-bit numbers, a list as a pointer and a length.
 
 _RADOLAN, _HRAP = 1, 2  # kinds of grid
 
@@ -176,6 +183,10 @@ class _Scan(Structure):
     _fields_ = [("site", _Site), *_fields("rays gates first spacing"), ("grid", _Grid), *_fields("weighting")]
 
 
+class _Sweep(Structure):
+    _fields_ = [("scan", _Scan), *_fields("taken closed")]
+
+
 def _load():
     named = os.environ.get("ULDREVIN_LIBRARY")
     path = Path(named) if named else Path(__file__).resolve().parents[2] / "target" / "libuldrevin.so"
@@ -187,10 +198,13 @@ def _load():
 
 def _declare(library):
     one_list = [c_void_p, c_size_t]
-    site, grid, scan, length = map(POINTER, (_Site, _Grid, _Scan, c_uint64))
+    site, grid, scan, sweep, length = map(POINTER, (_Site, _Grid, _Scan, _Sweep, c_uint64))
     arguments = {
         "place": [site, grid, c_int64, c_int64, POINTER(c_uint32), POINTER(c_int64), POINTER(c_int64)],
         "remap": [scan, *one_list * 9],
+        "sweep_open": [scan, *one_list * 3, sweep],
+        "sweep_take": [sweep, *one_list * 7],
+        "sweep_close": [sweep, *one_list * 5],
         "record_head": [*one_list, scan],
         "record_field": [*one_list, c_uint32, length, length],
         "record_read": [*one_list, scan, *one_list * 3],
@@ -249,16 +263,24 @@ def _grid_read(grid):
     return Hrap(grid.x, grid.y, grid.columns, grid.rows)
 
 
+def _head_read(head):
+    site = Site(head.site.latitude, head.site.longitude)
+    return ScanHead(site, head.rays, head.gates, head.first, head.spacing, _grid_read(head.grid), head.weighting)
+
+
 # Lists. Their types go by the letters that array and numpy share: I, H, B and Q for 32, 16, 8 and 64 bits without a sign.
 
 _ANYWHERE = array("Q", [0])  # what the pointer of an empty list points to
 
+# The shapes of given lists, as numpy has them: azimuths, gates of several rays, gates of one ray.
+_BY_RAY, _BY_GATE, _OF_RAY = ("rays",), ("rays", "gates"), ("gates",)
 
-def _new(letter, shape):
-    """A list of zeros for the library to write."""
+
+def _new(letter, shape, number=0):
+    """A list for the library to write, which holds this number everywhere."""
     if numpy is not None:
-        return numpy.zeros(shape, letter)
-    return array(letter, bytes(prod(shape) * array(letter).itemsize))
+        return numpy.full(shape, number, letter)
+    return array(letter, [number]) * prod(shape)
 
 
 def _asked(function, *arguments):
@@ -284,31 +306,39 @@ def _lent(one):
     return (address, length) if length else (_ANYWHERE.buffer_info()[0], 0)
 
 
+def _overlap(one, other):
+    """Whether two lists stand in the same memory."""
+    (start, length), (other_start, other_length) = _lent(one), _lent(other)
+    return start < other_start + other_length * other.itemsize and other_start < start + length * one.itemsize
+
+
 def flat(numbers):
     """A list that came back, as a plain list of whole numbers: ray by ray, or row by row."""
     return numbers.tolist() if isinstance(numbers, array) else numbers.ravel().tolist()
 
 
-def _held(name, letter, numbers, dimensions):
+def _held(name, letter, numbers, form):
     """A given list as the library can read it, and its shape where it has one."""
     if numpy is not None and isinstance(numbers, numpy.ndarray):
-        return _held_numpy(name, letter, numbers, dimensions)
+        return _held_numpy(name, letter, numbers, form)
     if isinstance(numbers, array) and numbers.typecode == letter:
         return numbers, None
+    if not hasattr(numbers, "__iter__"):
+        raise TypeError(f"{name} must be a list of whole numbers, and is {numbers!r}")
     numbers, shape = list(numbers), None
-    if dimensions == 2 and numbers and hasattr(numbers[0], "__len__"):
+    if form == _BY_GATE and numbers and hasattr(numbers[0], "__len__"):
         numbers, shape = _joined(name, numbers)
     return _packed(name, letter, numbers), shape
 
 
-def _held_numpy(name, letter, numbers, dimensions):
+def _held_numpy(name, letter, numbers, form):
     needed = numpy.dtype(letter)
     if isinstance(numbers, numpy.ma.MaskedArray):
         raise TypeError(f"{name} must not be a masked array; its method filled makes a plain one")
     if numbers.dtype != needed:
         raise TypeError(f"{name} must have the dtype {needed}, and has {numbers.dtype}")
-    if numbers.ndim != dimensions:
-        shape = "(rays, gates)" if dimensions == 2 else "(rays,)"
+    if numbers.ndim != len(form):
+        shape = str(form).replace("'", "")
         raise ValueError(f"{name} must have a shape {shape}, and has {numbers.shape}")
     return numpy.require(numbers, requirements=("C", "A")), numbers.shape
 
@@ -331,17 +361,27 @@ def _packed(name, letter, numbers):
         raise ValueError(f"{name} holds {numbers[wrong]} at place {wrong}, and the library takes 0 to {greatest:,}") from None
 
 
-def _given(scan):
-    """A scan as the library takes it: its numbers and its lists."""
-    azimuths, _ = _held("azimuths", "I", scan.azimuths, 1)
-    values, shape = _held("values", "H", scan.values, 2)
-    qualities, other = _held("qualities", "B", scan.qualities, 2)
+def _rays_given(azimuths, values, qualities, form=_BY_GATE):
+    """The lists of some rays as the library takes them, and the shape of values and qualities where one of them has a shape."""
+    azimuths, _ = _held("azimuths", "I", azimuths, _BY_RAY)
+    values, shape = _held("values", "H", values, form)
+    qualities, other = _held("qualities", "B", qualities, form)
     if shape and other and shape != other:
         raise ValueError(f"values have the shape {shape} and qualities {other}; they must have the same")
-    rays, gates = shape or other or (len(azimuths), len(values) // max(1, len(azimuths)))
-    numbers = _numbers(rays=rays, gates=gates, first=scan.first, spacing=scan.spacing)
-    head = _Scan(_site(scan.site), *numbers, _grid(scan.grid), _number("weighting", scan.weighting))
-    return head, [azimuths, values, qualities]
+    return [azimuths, values, qualities], shape or other
+
+
+def _head(site, grid, weighting, first, spacing, rays, gates):
+    numbers = _numbers(rays=rays, gates=gates, first=first, spacing=spacing)
+    return _Scan(_site(site), *numbers, _grid(grid), _number("weighting", weighting))
+
+
+def _given(scan):
+    """A scan as the library takes it: its numbers and its lists."""
+    lists, shape = _rays_given(*scan[5:])
+    azimuths, values, _ = lists
+    rays, gates = shape or (len(azimuths), len(values) // max(1, len(azimuths)))
+    return _head(*scan[:5], rays, gates), lists
 
 
 # What is public.
@@ -390,13 +430,112 @@ def remap(site, grid, weighting, first, spacing, azimuths, values, qualities):
     return remapped
 
 
+def _own(name, words):
+    """A list of a sweep: it can be read and written, and no other list can take its place."""
+    return property(lambda self: getattr(self._lists, name), doc=words)
+
+
+class Sweep:
+    """A scan that takes its rays one by one, or some at a time, as the antenna turns. The lists are its own.
+
+    >>> sweep = Sweep(Site(600_000, -1_050_000), Hrap(400, 932, 2, 1), BY_QUALITY, first=0, spacing=100_000, rays=3, gates=2)
+    >>> sweep.take(0, [1, 7], [90, 10])
+    >>> sweep.take(900_000, [3, 5], [101, 40])
+    Traceback (most recent call last):
+    uldrevin.Refusal: refusal 8: a quality is over 100
+    >>> sweep.taken, flat(sweep.counts)
+    (1, [0, 2])
+    >>> sweep.take([900_000, 1_800_000], [[3, 5], [0, NOT_MEASURED]], [[60, 40], [100, 100]])
+    >>> remapped = sweep.close()
+    >>> [flat(cells)[1] for cells in (remapped.means, remapped.cell_qualities, remapped.counts)]
+    [1, 60, 5]
+
+    A refused ray, or a group of rays with one bad ray, changes nothing, and the sweep goes on without it. The ledger of the rays taken,
+    the sums, and after closing the cells, are those that remap gives for the whole scan of these rays, however they were divided, unless
+    the caller has altered a list. Until its ray is taken a gate's ledger entry is OUTSIDE; until the sweep is closed each mean is NO_MEAN
+    and each cell's quality 0. Threads that share a sweep wait for each other.
+    """
+
+    def __init__(self, site, grid, weighting, first, spacing, rays, gates):
+        """Opens a sweep of this many rays, of this many gates each. A weighting other than 0 is by quality. Refusals 1 to 5."""
+        head = _head(site, grid, weighting, first, spacing, rays, gates)
+        self._state, self._lock = _Sweep(), Lock()
+        # Asked with empty lists, the library refuses a wrong head by its number, before lists of its size are made.
+        number = _asked(_library.uldrevin_sweep_open, head, *(array(letter) for letter in "IIQ"), self._state)
+        if number != LENGTH_NOT_EXACT:
+            raise Refusal(number)
+        cells = (head.grid.rows, head.grid.columns)
+        sums = [_new(letter, cells) for letter in "IIQ"]
+        _accept(_asked(_library.uldrevin_sweep_open, head, *sums, self._state))
+        self._lists = Remapped(_new("I", (head.rays, head.gates), OUTSIDE), *sums, _new("H", cells, NO_MEAN), _new("B", cells))
+
+    ledger = _own("ledger", "For each gate of all rays announced: its cell, or OUTSIDE.")
+    counts = _own("counts", "For each cell: the measured gates in it, of the rays taken.")
+    quality_sums = _own("quality_sums", "For each cell: the sum of the qualities of these gates.")
+    value_sums = _own("value_sums", "For each cell: the sum of the values of these gates, each times its quality if by quality.")
+    means = _own("means", "For each cell: its mean, published on closing.")
+    cell_qualities = _own("cell_qualities", "For each cell: its quality, published on closing.")
+    head = property(lambda self: _head_read(self._state.scan), doc="The numbers of the scan; its rays are those announced.")
+    taken = property(lambda self: self._state.taken, doc="How many rays were taken so far.")
+    closed = property(lambda self: self._state.closed != 0, doc="Whether the sweep is closed.")
+
+    def take(self, azimuths, values, qualities):
+        """Takes the next ray, given as its azimuth, the values of its gates and their qualities, or several, given in lists as to remap.
+
+        Values and qualities of one ray as numpy arrays have the shape (gates,). Refusals, in this order: 19, 17, 6 also for no rays, 7, 8,
+        and 31 where the caller has altered the sums.
+        """
+        try:
+            azimuths, form = [index(azimuths)], _OF_RAY
+        except TypeError:
+            form = _BY_GATE
+        lists, shape = _rays_given(azimuths, values, qualities, form)
+        needed = (len(lists[0]), self._state.scan.gates)
+        # The library is told lengths alone, and would take rays and gates that have changed places.
+        if form == _BY_GATE and shape and shape != needed and prod(shape) == prod(needed):
+            raise ValueError(f"values and qualities must have the shape {needed} for these azimuths, and have {shape}")
+        if any(_overlap(given, own) for given in lists for own in self._lists[:4]):
+            raise ValueError("a list that is given must not be one of the sweep's own")
+        with self._lock:
+            _accept(_asked(_library.uldrevin_sweep_take, self._state, *lists, *self._lists[:4]))
+
+    def feed(self, rays):
+        """Takes rays until there are no more: each is a tuple of what take is given.
+
+        A refused one raises its refusal. Fed once more with the same generator, the sweep goes on with the ray after it:
+
+        >>> def rays():
+        ...     yield 0, [1, 7], [90, 10]
+        ...     yield 3_600_000, [3, 5], [60, 40]
+        ...     yield 1_800_000, [0, NOT_MEASURED], [100, 100]
+        >>> sweep, turning = Sweep(Site(600_000, -1_050_000), Hrap(400, 932, 2, 1), PLAIN, 0, 100_000, rays=2, gates=2), rays()
+        >>> sweep.feed(turning)
+        Traceback (most recent call last):
+        uldrevin.Refusal: refusal 7: an azimuth is not 0 to 3,599,999
+        >>> sweep.feed(turning)
+        >>> sweep.taken
+        2
+        """
+        for ray in rays:
+            self.take(*ray)
+
+    def close(self):
+        """Publishes means and cell qualities, and ends the sweep. The six lists, which are the sweep's own, come back as from remap.
+
+        From sums that the caller has altered, a mean above 65,533 becomes NO_MEAN and a quality above 100 becomes 100. Refusals, in this
+        order: 19, 18, 6.
+        """
+        with self._lock:
+            _accept(_asked(_library.uldrevin_sweep_close, self._state, *self._lists[1:]))
+        return self._lists
+
+
 def record_head(data):
     """The numbers of a scan record."""
     data = bytes(memoryview(data).cast("B"))
     head = _Scan()
     _accept(_library.uldrevin_record_head(data, len(data), head))
-    site = Site(head.site.latitude, head.site.longitude)
-    return ScanHead(site, head.rays, head.gates, head.first, head.spacing, _grid_read(head.grid), head.weighting)
+    return _head_read(head)
 
 
 def record_field(data, number):

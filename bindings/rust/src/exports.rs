@@ -62,6 +62,16 @@ pub struct ScanNumbers {
     pub weighting: i64,
 }
 
+/// `struct uldrevin_sweep`.
+#[repr(C)]
+#[derive(Clone, Copy, Debug, Default, PartialEq, Eq)]
+pub struct SweepNumbers {
+    pub scan: ScanNumbers,
+    pub taken: i64,
+    /// 0 open, any other number closed.
+    pub closed: i64,
+}
+
 extern "C" {
     pub fn uldrevin_sine(angle: i64) -> i64;
     pub fn uldrevin_cosine(angle: i64) -> i64;
@@ -91,6 +101,49 @@ extern "C" {
         quality_sums: *mut u32,
         quality_sums_length: usize,
         value_sums: *mut u64,
+        value_sums_length: usize,
+        means: *mut u16,
+        means_length: usize,
+        cell_qualities: *mut u8,
+        cell_qualities_length: usize,
+    ) -> u32;
+
+    pub fn uldrevin_sweep_open(
+        scan: *const ScanNumbers,
+        counts: *mut u32,
+        counts_length: usize,
+        quality_sums: *mut u32,
+        quality_sums_length: usize,
+        value_sums: *mut u64,
+        value_sums_length: usize,
+        sweep: *mut SweepNumbers,
+    ) -> u32;
+
+    pub fn uldrevin_sweep_take(
+        sweep: *mut SweepNumbers,
+        azimuths: *const u32,
+        azimuths_length: usize,
+        values: *const u16,
+        values_length: usize,
+        qualities: *const u8,
+        qualities_length: usize,
+        ledger: *mut u32,
+        ledger_length: usize,
+        counts: *mut u32,
+        counts_length: usize,
+        quality_sums: *mut u32,
+        quality_sums_length: usize,
+        value_sums: *mut u64,
+        value_sums_length: usize,
+    ) -> u32;
+
+    pub fn uldrevin_sweep_close(
+        sweep: *mut SweepNumbers,
+        counts: *const u32,
+        counts_length: usize,
+        quality_sums: *const u32,
+        quality_sums_length: usize,
+        value_sums: *const u64,
         value_sums_length: usize,
         means: *mut u16,
         means_length: usize,

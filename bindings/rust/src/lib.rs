@@ -25,6 +25,8 @@
 //! assert_eq!(remapped.cell_qualities, [0, 50]);
 //! # Ok::<(), uldrevin::Refusal>(())
 //! ```
+//!
+//! A [`Sweep`] takes the rays of a scan as the antenna turns.
 
 pub mod exports;
 mod gate;
@@ -32,6 +34,7 @@ mod numbers;
 mod record;
 mod refusal;
 mod scan;
+mod sweep;
 
 pub use gate::{place, Placement};
 pub use record::{
@@ -40,6 +43,7 @@ pub use record::{
 };
 pub use refusal::Refusal;
 pub use scan::{remap, remap_into, CellLists, GateLists, Remapped, ScanHead, Weighting};
+pub use sweep::{SumLists, Sweep};
 
 /// The ledger entry of a gate outside the grid.
 pub const OUTSIDE: u32 = 4_294_967_295;

@@ -1,7 +1,9 @@
 //! The safe types as the numbers that C has, and back.
 
-use crate::exports::{GridNumbers, ScanNumbers, SiteNumbers, HRAP_SIDE, KIND_HRAP, KIND_RADOLAN};
-use crate::{Grid, HrapGrid, RadolanGrid, ScanHead, Site, Weighting};
+use crate::exports::{
+    GridNumbers, ScanNumbers, SiteNumbers, SweepNumbers, HRAP_SIDE, KIND_HRAP, KIND_RADOLAN,
+};
+use crate::{Grid, HrapGrid, RadolanGrid, ScanHead, Site, Sweep, Weighting};
 
 impl From<Site> for SiteNumbers {
     fn from(site: Site) -> SiteNumbers {
@@ -46,6 +48,16 @@ impl From<ScanHead> for ScanNumbers {
     }
 }
 
+impl From<Sweep> for SweepNumbers {
+    fn from(sweep: Sweep) -> SweepNumbers {
+        SweepNumbers {
+            scan: sweep.head.into(),
+            taken: sweep.taken.into(),
+            closed: sweep.closed.into(),
+        }
+    }
+}
+
 fn grid_of(numbers: GridNumbers) -> Grid {
     let GridNumbers { kind, x, y, .. } = numbers;
     let (columns, rows) = (numbers.columns as u32, numbers.rows as u32);
@@ -69,7 +81,7 @@ fn grid_of(numbers: GridNumbers) -> Grid {
     }
 }
 
-/// The head of a record that was not refused: each of its numbers is in the bounds of document 01, and fits.
+/// The head of a record or a sweep that was not refused: each of its numbers is in the bounds of document 01, and fits.
 pub(crate) fn head_of(numbers: ScanNumbers) -> ScanHead {
     ScanHead {
         site: Site {
@@ -85,5 +97,14 @@ pub(crate) fn head_of(numbers: ScanNumbers) -> ScanHead {
             0 => Weighting::Plain,
             _ => Weighting::ByQuality,
         },
+    }
+}
+
+/// A sweep that was not refused: it has taken no more rays than were announced.
+pub(crate) fn sweep_of(numbers: SweepNumbers) -> Sweep {
+    Sweep {
+        head: head_of(numbers.scan),
+        taken: numbers.taken as u32,
+        closed: numbers.closed != 0,
     }
 }

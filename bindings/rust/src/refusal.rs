@@ -1,4 +1,4 @@
-//! Refusals: document 01's numbers, with a sentence each.
+//! Refusals: the numbers of documents 01 and 02, with a sentence each.
 
 use std::error::Error;
 use std::fmt;
@@ -33,6 +33,10 @@ impl Refusal {
             14 => "bytes stand after field 7 of the record",
             15 => "the scan has over 32,767 gates, too many for a record",
             16 => "the buffer is shorter than the record",
+            17 => "more rays than were announced",
+            18 => "rays are missing",
+            19 => "the sweep is closed",
+            31 => "a count or sum of a cell would pass its width",
             _ => "no refusal has this number",
         }
     }

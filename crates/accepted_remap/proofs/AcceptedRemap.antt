@@ -37,25 +37,6 @@ use Rattle.tally.proofs.TallyWidth.{GatesMost, count-fits, quality-sum-fits, va
 use Rattle.tally.proofs.TallyFromNothing.{zeros-at, from-nothing}
 use Rattle.publish.proofs.PublishedRange.{mean-published, quality-published}
 
--- the last centre is the farthest
-pub centres-most : (gates first spacing g : ℕ) → centresAccepted gates first spacing ≡ true → g < gates → first + g * spacing ≤ 46000000
-unfolding centresAccepted
-centres-most gates first spacing g e h =
-    let last = leb-true (first + (gates - 1) * spacing) 46000000 (and-true (leb first 46000000 && inRange 1 1000000 spacing) _ e .1) in
-    omega (arith, last, mul-le-mul-right {m = g} {n = gates - 1} spacing (omega arith))
-
--- no gate of accepted numbers is refused
-pub gate-accepted : (head : ScanHead) (azimuth g : ℕ) → centresAccepted (head .gates) (head .first) (head .spacing) ≡ true → siteAccepted (head .site) ≡ true → gridAccepted (head .grid) ≡ true → azimuthAccepted azimuth ≡ true → g < head .gates → gateRefusal (head .site) (head .grid) azimuth (head .first + g * head .spacing) ≡ 0
-unfolding gateRefusal firstRefusal rangeAccepted
-gate-accepted head azimuth g centres site grid good h =
-    let range : leb (head .first + g * head .spacing) 46000000 ≡ true = le-leb _ _ (centres-most (head .gates) (head .first) (head .spacing) g centres h) in
-    rw (range, site, grid, good)
-
--- a gate that is not refused has the entry of its survey
-accepted-entry : (head : ScanHead) (azimuth range : ℕ) → gateRefusal (head .site) (head .grid) azimuth range ≡ 0 → surveyedEntry (surveyOf (head .site) (head .grid)) azimuth range ≡ entryOf (placementOf (head .site) (head .grid) azimuth range)
-unfolding surveyedEntry surveyed surveyOf placementOf unlessRefused positionOf
-accepted-entry head azimuth range e = rw e
-
 module _ {scan : Scan} {lists : Lists} (good : AcceptedScan scan lists) where
   pub is-surveyed : Surveyed (surveyOf (scan .head .site) (scan .head .grid))
   is-surveyed = surveyed-of (scan .head .site) (scan .head .grid) (good .site) (good .grid)
@@ -76,14 +57,9 @@ module _ {scan : Scan} {lists : Lists} (good : AcceptedScan scan lists) where
   unfolding filledLists ledgerOf raysOf gatesOf
   ledger-length = gates-length _ _ _ _ ∙ regular-gates (scan .head .gates) (scan .azimuths) ∙ ap (λ (n : ℕ). n * scan .head .gates) (good .lengths .azimuths-length)
 
-  surveyed-is : surveyedLedger (surveyOf (scan .head .site) (scan .head .grid)) (scan .head .first) (scan .head .spacing) (regularRays (scan .head .gates) (scan .azimuths)) ≡ filledLists scan .ledger
-  unfolding filledLists ledgerOf raysOf surveyedLedger
-  surveyed-is =
-      gates-same _ _ _ _ (scan .head .gates) azimuthAccepted (scan .azimuths) (good .azimuths-good)
-      (λ azimuth g a h. accepted-entry (scan .head) azimuth (scan .head .first + g * scan .head .spacing) (gate-accepted (scan .head) azimuth g (good .centres) (good .site) (good .grid) a h))
-
   pub ledger-is : sets (lists .ledger) 0 (surveyedLedger (surveyOf (scan .head .site) (scan .head .grid)) (scan .head .first) (scan .head .spacing) (regularRays (scan .head .gates) (scan .azimuths))) ≡ filledLists scan .ledger
-  ledger-is = rw surveyed-is (sets-whole (lists .ledger) _ (ledger-length ∙ sym (good .lengths .ledger-length)))
+  unfolding filledLists raysOf
+  ledger-is = rw (accepted-ledger (scan .head) (good .centres) (good .site) (good .grid) (scan .azimuths) (good .azimuths-good)) (sets-whole (lists .ledger) _ (ledger-length ∙ sym (good .lengths .ledger-length)))
 
   gates-most : gatesOf (scan .head) ≤ 720000
   unfolding gatesOf
@@ -99,25 +75,24 @@ module _ {scan : Scan} {lists : Lists} (good : AcceptedScan scan lists) where
     written-length : length written ≡ gatesOf (scan .head)
     written-length = ap length ledger-written ∙ ledger-length
 
-    pub addable : ((k : ℕ) → getD (scan .values) k 0 ≤ 65535) → Addable (scan .head .weighting) written (scan .values) (scan .qualities) (cleared (lists .sums))
+    pub addable : Addable written (scan .values) (scan .qualities) (cleared (lists .sums))
     unfolding cleared
-    addable small =
-        let most : GatesMost written (scan .values) (scan .qualities) = record { gates-most = rw written-length gates-most; values-most = small; qualities-most = qualities-most } in
-        record {
-          values-length = good .lengths .values-length ∙ sym written-length;
-          qualities-length = good .lengths .qualities-length ∙ sym written-length;
-          quality-sums-length = simp length-replicate (good .lengths .quality-sums-length ∙ sym (good .lengths .counts-length));
-          value-sums-length = simp length-replicate (good .lengths .value-sums-length ∙ sym (good .lengths .counts-length));
-          counts-fit = λ cell. omega (arith, zeros-at (length (lists .sums .counts)) cell, count-fits most cell);
-          quality-sums-fit = λ cell. omega (arith, zeros-at (length (lists .sums .qualitySums)) cell, quality-sum-fits most cell);
-          value-sums-fit = λ cell. omega (arith, zeros-at (length (lists .sums .valueSums)) cell, value-sum-fits most (scan .head .weighting) cell);
-        }
+    addable = record {
+      values-length = good .lengths .values-length ∙ sym written-length;
+      qualities-length = good .lengths .qualities-length ∙ sym written-length;
+      quality-sums-length = simp length-replicate (good .lengths .quality-sums-length ∙ sym (good .lengths .counts-length));
+      value-sums-length = simp length-replicate (good .lengths .value-sums-length ∙ sym (good .lengths .counts-length));
+    }
 
-    pub sums-are : addedSums (scan .head .weighting) written (scan .values) (scan .qualities) (cleared (lists .sums)) ≡ filledLists scan .sums
+    -- no count or sum passes its width, so all gates are added
+    pub sums-are : {sums : Both Sums Sums} {gates : ℕ} → ((k : ℕ) → getD (scan .values) k 0 ≤ 65535) → sums .entry ≡ cleared (lists .sums) → AddsGates (scan .head .weighting) written (scan .values) (scan .qualities) sums gates → sums .exit ≡ filledLists scan .sums
     unfolding filledLists
-    sums-are =
+    sums-are small from adds =
+        let most : GatesMost written (scan .values) (scan .qualities) = record { gates-most = rw written-length gates-most; values-most = small; qualities-most = qualities-most } in
         let lengths = good .lengths in
-        rw ledger-written (from-nothing _ _ _ _ (lists .sums) (lengths .counts-length) (lengths .quality-sums-length) (lengths .value-sums-length))
+        all-added adds (ap (λ (s : Sums). fitWidths (addedSums (scan .head .weighting) written (scan .values) (scan .qualities) s)) from ∙ from-nothing-fits most (scan .head .weighting) (lists .sums))
+        ∙ ap (addedSums (scan .head .weighting) written (scan .values) (scan .qualities)) from
+        ∙ rw ledger-written (from-nothing _ _ _ _ (lists .sums) (lengths .counts-length) (lengths .quality-sums-length) (lengths .value-sums-length))
 
   -- ---- the published cells, of the sums that were written
 

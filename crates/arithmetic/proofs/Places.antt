@@ -10,7 +10,7 @@ use borrow.Author.Tests.{lt-ltb, le-ltb}
 use lib.Dec.{T, ltb, ltb→lt, nltb→le}
 use lib.ListN.{length, set, length-set, getD, replicate, drop, drop-of-length-le}
 use lib.Seq.{drop-cons, ext-getD, getD-set-same, getD-set-other}
-use Rattle.arithmetic.proofs.Test.{and-true}
+use Rattle.arithmetic.proofs.Test.{and-true, and-false}
 use Rattle.arithmetic.specs.Places.{table, sumTo, allOf, Written}
 
 -- ---- tables
@@ -199,3 +199,15 @@ unfolding allOf
 all-at test [] z e k = z
 all-at test (x ∷ xs) z e zero = and-true (test x) (allOf test xs) e .0
 all-at test (x ∷ xs) z e (suc k) = all-at test xs z (and-true (test x) (allOf test xs) e .1) k
+
+-- a test that passes at each place, and one that fails at some place
+pub all-true : (test : ℕ → Bool) (xs : List ℕ) → ((k : ℕ) → k < length xs → test (getD xs k 0) ≡ true) → allOf test xs ≡ true
+unfolding allOf
+all-true test [] h = refl
+all-true test (x ∷ xs) h = rw (h zero (zero-lt-suc (length xs))) (all-true test xs (λ k i. h (suc k) (suc-le-suc i)))
+
+pub all-false : (test : ℕ → Bool) (xs : List ℕ) (k : ℕ) → k < length xs → test (getD xs k 0) ≡ false → allOf test xs ≡ false
+unfolding allOf
+all-false test [] k i e = absurd (not-suc-le-zero i)
+all-false test (x ∷ xs) zero i e = rw e
+all-false test (x ∷ xs) (suc k) i e = rw (all-false test xs k (le-of-suc-le-suc i) e) (and-false (test x))

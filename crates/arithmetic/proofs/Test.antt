@@ -6,3 +6,8 @@ use mathlib.Core.Bool.{Bool, true, false, _&&_}
 pub and-true : (a b : Bool) → (a && b) ≡ true → (a ≡ true) × (b ≡ true)
 and-true true b e = (refl, e)
 and-true false b e = (e, cc)
+
+-- the second of two tests fails
+pub and-false : (a : Bool) → (a && false) ≡ false
+and-false true = refl
+and-false false = refl

@@ -11,6 +11,7 @@ use lib.ListN.{length, getD, take, drop, drop-of-length-le}
 use lib.Seq.{drop-cons}
 use Rattle.arithmetic.specs.Places.{table, allOf}
 use Rattle.arithmetic.proofs.Places.{table-length, table-at, all-step, all-stop, all-end}
+use Rattle.arithmetic.proofs.Test.{and-false}
 use Rattle.gate_words.specs.GivenWords.{wordLength, sameWord, wordStart, word}
 
 -- ---- where a word ends
@@ -68,16 +69,12 @@ module _ (test : ℕ → Bool) (from count k : ℕ) (b : Bool) where
 
 -- ---- whether two words are the same
 
-and-false : (t : Bool) → false ≡ (t && false)
-and-false true = refl
-and-false false = refl
-
 pub other-length : (a b : List ℕ) → (length a ≡ length b → ⊥) → false ≡ sameWord a b
 unfolding sameWord
 other-length [] [] h = absurd (h refl)
 other-length [] (y ∷ b) h = refl
 other-length (x ∷ a) [] h = refl
-other-length (x ∷ a) (y ∷ b) h = rw (sym (other-length a b (λ e. h (ap suc e)))) (and-false (eqb x y))
+other-length (x ∷ a) (y ∷ b) h = rw (sym (other-length a b (λ e. h (ap suc e)))) (sym (and-false (eqb x y)))
 
 module _ (a b : List ℕ) (k : ℕ) where
   pub same-so-far : k < length a → k < length b → getD a k 0 ≡ getD b k 0 → sameWord (drop k a) (drop k b) ≡ sameWord (drop (k + 1) a) (drop (k + 1) b)

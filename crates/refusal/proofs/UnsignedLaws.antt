@@ -7,6 +7,7 @@ use borrow.Author.Tests.{ltb-true, ltb-false, lt-ltb, le-ltb, lt-leb}
 use lib.Dec.{T, ltb, leb}
 use lib.IntN.{ℤ, pos, negsuc, natAbs}
 use lib.Signed.{ltZ, nonNeg}
+use Rattle.arithmetic.proofs.Test.{and-false}
 use Rattle.refusal.specs.Checks.{inRange, inSignedRange}
 use Rattle.refusal.specs.Unsigned.{unsigned32}
 
@@ -28,10 +29,6 @@ within-32-bits (pos n) e f =
 within-32-bits (negsuc n) e f = let z : _≡_ {A = ℕ} 0 1 = cc in absurd (omega arith)
 
 -- ---- what does not fit is refused by its rule: a limit on the number that 32 bits hold is the same limit on the number that was given
-
-and-false : (t : Bool) → (t && false) ≡ false
-and-false true = refl
-and-false false = refl
 
 beyond : (least most n : ℕ) → most < n → inRange least most n ≡ false
 unfolding inRange

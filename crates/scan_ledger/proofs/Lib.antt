@@ -1,1 +1,2 @@
 pub mod RaysWritten
+pub mod AcceptedLedger

@@ -1,1 +1,2 @@
+pub mod ScanLedger
 pub mod LedgerRoom

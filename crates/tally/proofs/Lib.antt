@@ -1,5 +1,7 @@
+pub mod WidthLaws
 pub mod TallyTurn
-pub mod TallyWidth
 pub mod TallySplit
 pub mod TallyFromNothing
+pub mod TallyWidth
+pub mod AllAdded
 pub mod CountTotal

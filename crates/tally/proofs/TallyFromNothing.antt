@@ -8,7 +8,7 @@ use Rattle.arithmetic.specs.Places.{table}
 use Rattle.arithmetic.proofs.Places.{table-ext}
 use Rattle.tally.specs.declared.gates.Weighting.{Weighting}
 use Rattle.tally.specs.LentSums.{Sums}
-use Rattle.tally.specs.Tally.{countOf, qualitySumOf, valueSumOf, talliedSums, cleared, added, addedSums}
+use Rattle.tally.specs.Tally.{countOf, qualitySumOf, valueSumOf, talliedSums, cleared, added, addedFirst, addedSums}
 
 pub zeros-at : (n cell : ℕ) → _≡_ {A = ℕ} (getD (replicate n 0) cell 0) 0
 zeros-at zero cell = refl
@@ -22,7 +22,7 @@ added-to-zeros share n {m} e =
     ∙ table-ext _ _ m (λ cell h. omega (arith, zeros-at n cell))
 
 pub from-nothing : (weighting : Weighting) (ledger values qualities : List ℕ) (sums : Sums) {cells : ℕ} → length (sums .counts) ≡ cells → length (sums .qualitySums) ≡ cells → length (sums .valueSums) ≡ cells → addedSums weighting ledger values qualities (cleared sums) ≡ talliedSums weighting ledger values qualities cells
-unfolding talliedSums addedSums cleared
+unfolding talliedSums addedFirst addedSums cleared countOf qualitySumOf valueSumOf
 from-nothing weighting ledger values qualities sums c q v i = record {
   counts = added-to-zeros (countOf ledger values qualities) _ c i;
   qualitySums = added-to-zeros (qualitySumOf ledger values qualities) _ q i;

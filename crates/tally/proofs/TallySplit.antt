@@ -1,50 +1,98 @@
--- Gates that are split at a place: the sums of both parts add up, whatever they are added onto. Assumes nothing.
-use mathlib.Core.Path.{_≡_, sym, ap, ap₂, _∙_}
-use mathlib.Core.Bool.{cond}
-use mathlib.Core.List.{List}
-use Prim.Native.Nat.{ℕ, _+_, _-_, _≤_}
+-- Gates that follow others: their sums are added onto those of the gates before them, whatever these were added onto. Assumes nothing.
+use mathlib.Core.Path.{_≡_, refl, sym, ap, _∙_}
+use mathlib.Core.List.{List, _++_}
+use Prim.Native.Nat.{ℕ, _+_, _<_, _≤_}
+use native.Mathlib.Nat.{zero-add}
 use native.Mathlib.Omega.{arith}
-use lib.ListN.{length, length-drop, getD, take, drop}
-use lib.Seq.{length-take-le, getD-take, getD-drop}
-use Rattle.arithmetic.specs.Places.{table, sumTo}
+use lib.ListN.{length, getD, take, length-append, List·getD-append}
+use lib.Seq.{length-take-le, getD-take, getD-append-add}
+use Rattle.arithmetic.specs.Places.{table}
 use Rattle.arithmetic.proofs.Places.{table-length, table-at, table-ext, sum-ext, sum-split}
 use Rattle.tally.specs.Gates.{weighed}
 use Rattle.tally.specs.LentSums.{Sums}
-use Rattle.tally.specs.Tally.{contributes, sumOver, countOf, qualitySumOf, valueSumOf, added, addedSums}
+use Rattle.tally.specs.Tally.{contributes, sumOver, added, addedFirst, addedSums}
 use Rattle.tally.specs.declared.gates.Weighting.{Weighting}
+use Rattle.tally.proofs.TallyTurn.{given, none-added}
 
 -- a share and then another are added as their sum
-added-twice : (f g whole : ℕ → ℕ) → ((cell : ℕ) → whole cell ≡ f cell + g cell) → (held : List ℕ) → added whole held ≡ added g (added f held)
+added-twice : (f g whole : ℕ → ℕ) → ((cell : ℕ) → whole cell ≡ f cell + g cell) → (held : List ℕ) → added g (added f held) ≡ added whole held
 unfolding added
 added-twice f g whole e held =
     let n = length held in
     let once : ℕ → ℕ = λ cell. getD held cell 0 + f cell in
-    table-ext _ _ n (λ cell h. omega (arith, e cell, table-at once n cell h))
-    ∙ ap (λ (m : ℕ). table (λ cell. getD (table once n) cell 0 + g cell) m) (sym (table-length once n))
+    ap (λ (m : ℕ). table (λ cell. getD (table once n) cell 0 + g cell) m) (table-length once n)
+    ∙ table-ext _ _ n (λ cell h. omega (arith, e cell, table-at once n cell h))
 
--- what gate k gives to the cell
-abbrev given : List ℕ → List ℕ → List ℕ → (ℕ → ℕ → ℕ) → ℕ → ℕ → ℕ
-given ledger values qualities share cell k = cond (contributes ledger values qualities cell k) (share (getD values k 0) (getD qualities k 0)) 0
+-- no gates added
+pub added-none : (weighting : Weighting) (ledger values qualities : List ℕ) (sums : Sums) → addedFirst weighting ledger values qualities 0 sums ≡ sums
+unfolding addedFirst
+added-none weighting ledger values qualities sums i = record {
+  counts = sym (none-added ledger values qualities (λ value quality. 1) (sums .counts)) i;
+  qualitySums = sym (none-added ledger values qualities (λ value quality. quality) (sums .qualitySums)) i;
+  valueSums = sym (none-added ledger values qualities (weighed weighting) (sums .valueSums)) i;
+}
 
-module _ (ledger values qualities : List ℕ) (n : ℕ) (within : n ≤ length ledger) where
-  pub sums-add : (share : ℕ → ℕ → ℕ) (cell : ℕ) → sumOver ledger values qualities share (length ledger) cell ≡ sumOver (take n ledger) (take n values) (take n qualities) share (length (take n ledger)) cell + sumOver (drop n ledger) (drop n values) (drop n qualities) share (length (drop n ledger)) cell
+-- the first n gates of a part are those of the whole from a place on
+pub record PartOf (ledger values qualities : List ℕ) (from n : ℕ) (partLedger partValues partQualities : List ℕ) : Type 0 where
+  pub same-entries : (k : ℕ) → k < n → getD partLedger k 0 ≡ getD ledger (from + k) 0
+  pub same-values : (k : ℕ) → k < n → getD partValues k 0 ≡ getD values (from + k) 0
+  pub same-qualities : (k : ℕ) → k < n → getD partQualities k 0 ≡ getD qualities (from + k) 0
+
+module _ {ledger values qualities partLedger partValues partQualities : List ℕ} {from n : ℕ} (part : PartOf ledger values qualities from n partLedger partValues partQualities) where
+  sums-add : (share : ℕ → ℕ → ℕ) (cell : ℕ) → sumOver ledger values qualities share (from + n) cell ≡ sumOver ledger values qualities share from cell + sumOver partLedger partValues partQualities share n cell
   unfolding sumOver contributes
   sums-add share cell =
-      let rest = length ledger - n in
-      let whole = given ledger values qualities share cell in
-      let first = given (take n ledger) (take n values) (take n qualities) share cell in
-      let second = given (drop n ledger) (drop n values) (drop n qualities) share cell in
-      let split : length ledger ≡ n + rest = omega arith in
-      ap (sumTo whole) split ∙ sum-split whole n rest
-      ∙ ap₂ (λ (x y : ℕ). x + y)
-      (sum-ext _ first n (λ k h. rw (getD-take n ledger k 0 h, getD-take n values k 0 h, getD-take n qualities k 0 h)) ∙ ap (sumTo first) (sym (length-take-le n ledger within)))
-      (sum-ext _ second rest (λ k h. rw (getD-drop n ledger k 0, getD-drop n values k 0, getD-drop n qualities k 0)) ∙ ap (sumTo second) (sym (length-drop n ledger)))
+      sum-split _ from n
+      ∙ ap (λ (x : ℕ). sumOver ledger values qualities share from cell + x)
+      (sum-ext _ _ n (λ k h. rw (part .same-entries k h, part .same-values k h, part .same-qualities k h)))
 
-  -- so both parts may be added at once, or one after the other
-  pub added-in-parts : (weighting : Weighting) (sums : Sums) → addedSums weighting ledger values qualities sums ≡ addedSums weighting (drop n ledger) (drop n values) (drop n qualities) (addedSums weighting (take n ledger) (take n values) (take n qualities) sums)
-  unfolding addedSums countOf qualitySumOf valueSumOf
-  added-in-parts weighting sums i = record {
+  -- so the part may be added onto the gates before it
+  pub added-on : (weighting : Weighting) (sums : Sums) → addedFirst weighting partLedger partValues partQualities n (addedFirst weighting ledger values qualities from sums) ≡ addedFirst weighting ledger values qualities (from + n) sums
+  unfolding addedFirst
+  added-on weighting sums i = record {
     counts = added-twice _ _ _ (sums-add (λ value quality. 1)) (sums .counts) i;
     qualitySums = added-twice _ _ _ (sums-add (λ value quality. quality)) (sums .qualitySums) i;
     valueSums = added-twice _ _ _ (sums-add (weighed weighting)) (sums .valueSums) i;
   }
+
+-- gates that are joined end to end are added at once, or one part after the other
+module _ (ledger values qualities ledger′ values′ qualities′ : List ℕ) (v : length values ≡ length ledger) (q : length qualities ≡ length ledger) where
+  front : (xs ys : List ℕ) (k : ℕ) → k < length xs → getD xs k 0 ≡ getD (xs ++ ys) (0 + k) 0
+  front xs ys k h = rw zero-add (sym (List·getD-append xs ys 0 k h))
+
+  back : (xs ys : List ℕ) (k : ℕ) → length xs ≡ length ledger → getD ys k 0 ≡ getD (xs ++ ys) (length ledger + k) 0
+  back xs ys k e = sym (ap (λ (m : ℕ). getD (xs ++ ys) (m + k) 0) (sym e) ∙ getD-append-add xs ys k 0)
+
+  pub added-joined : (weighting : Weighting) (sums : Sums) → addedSums weighting (ledger ++ ledger′) (values ++ values′) (qualities ++ qualities′) sums ≡ addedSums weighting ledger′ values′ qualities′ (addedSums weighting ledger values qualities sums)
+  unfolding addedSums
+  added-joined weighting sums =
+      let first : PartOf (ledger ++ ledger′) (values ++ values′) (qualities ++ qualities′) 0 (length ledger) ledger values qualities = record {
+        same-entries = λ k h. front ledger ledger′ k h;
+        same-values = λ k h. front values values′ k (omega arith);
+        same-qualities = λ k h. front qualities qualities′ k (omega arith);
+      } in
+      let second : PartOf (ledger ++ ledger′) (values ++ values′) (qualities ++ qualities′) (length ledger) (length ledger′) ledger′ values′ qualities′ = record {
+        same-entries = λ k h. back ledger ledger′ k refl;
+        same-values = λ k h. back values values′ k v;
+        same-qualities = λ k h. back qualities qualities′ k q;
+      } in
+      ap (λ (n : ℕ). addedFirst weighting (ledger ++ ledger′) (values ++ values′) (qualities ++ qualities′) n sums) (length-append ledger ledger′)
+      ∙ sym (added-on second weighting sums)
+      ∙ ap (addedFirst weighting ledger′ values′ qualities′ (length ledger′))
+      (ap (λ (n : ℕ). addedFirst weighting (ledger ++ ledger′) (values ++ values′) (qualities ++ qualities′) n sums) (sym (zero-add (length ledger)))
+      ∙ sym (added-on first weighting sums)
+      ∙ ap (addedFirst weighting ledger values qualities (length ledger)) (added-none weighting _ _ _ sums))
+
+-- the first gates, as a list of their own
+pub added-taken : (weighting : Weighting) (ledger values qualities : List ℕ) (n : ℕ) (sums : Sums) → n ≤ length ledger → addedFirst weighting ledger values qualities n sums ≡ addedSums weighting (take n ledger) (take n values) (take n qualities) sums
+unfolding addedSums
+added-taken weighting ledger values qualities n sums h =
+    let part : PartOf ledger values qualities 0 n (take n ledger) (take n values) (take n qualities) = record {
+      same-entries = λ k i. rw zero-add (getD-take n ledger k 0 i);
+      same-values = λ k i. rw zero-add (getD-take n values k 0 i);
+      same-qualities = λ k i. rw zero-add (getD-take n qualities k 0 i);
+    } in
+    ap (λ (m : ℕ). addedFirst weighting ledger values qualities m sums) (sym (zero-add n))
+    ∙ sym (added-on part weighting sums)
+    ∙ ap (addedFirst weighting (take n ledger) (take n values) (take n qualities) n) (added-none weighting _ _ _ sums)
+    ∙ ap (λ (m : ℕ). addedFirst weighting (take n ledger) (take n values) (take n qualities) m sums) (sym (length-take-le n ledger h))

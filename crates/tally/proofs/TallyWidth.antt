@@ -2,17 +2,21 @@
 use mathlib.Core.Path.{_≡_, refl}
 use mathlib.Core.Bool.{Bool, true, false, cond}
 use mathlib.Core.List.{List}
-use Prim.Native.Nat.{ℕ, _*_, _^_, _<_, _≤_, zero-le}
+use Prim.Native.Nat.{ℕ, _*_, _≤_, zero-le}
 use native.Mathlib.Nat.{le-refl, le-trans, mul-le-mul}
 use native.Mathlib.Omega.{arith}
 use borrow.Author.Tests.{eqb-false, not-true}
 use lib.Dec.{eqb}
-use lib.ListN.{length, getD}
+use lib.ListN.{length, getD, replicate}
 use Rattle.tally.specs.Gates.{isMeasured, echoOf, weighed}
-use Rattle.tally.specs.Tally.{sumOver, countOf, qualitySumOf, valueSumOf}
+use Rattle.tally.specs.LentSums.{Sums}
+use Rattle.tally.specs.Tally.{sumOver, countOf, qualitySumOf, valueSumOf, cleared, added, addedFirst, addedSums}
+use Rattle.tally.specs.Width.{most32, most64, within, fitWidths}
 use Rattle.tally.specs.declared.gates.Weighting.{Weighting}
 use Rattle.tally.specs.declared.gates.Weighting.the-variants.{Plain, ByQuality}
-use Rattle.tally.proofs.TallyTurn.{sum-over-most}
+use Rattle.tally.proofs.TallyTurn.{added-length, added-at, sum-over-most}
+use Rattle.tally.proofs.TallyFromNothing.{zeros-at}
+use Rattle.tally.proofs.WidthLaws.{within-true, all-fit}
 
 -- ---- what one measured gate gives at most
 
@@ -54,12 +58,15 @@ module _ {ledger values qualities : List ℕ} (g : GatesMost ledger values quali
   value-sum-most weighting cell =
       all-most (weighed weighting) (65533 * 100) cell (λ k m. weighed-most weighting _ _ (g .values-most k) (g .qualities-most k) m)
 
-  -- so each fits the type that the code has for it
-  pub count-fits : (cell : ℕ) → countOf ledger values qualities cell < 2 ^ 32
-  count-fits cell = omega (arith, count-most cell)
+  -- so from nothing no count or sum passes its width
+  from-zeros : (f : ℕ → ℕ) (most n : ℕ) → ((cell : ℕ) → f cell ≤ most) → within most (added f (replicate n 0)) ≡ true
+  from-zeros f most n h =
+      within-true most _ (λ cell i. omega (arith, added-at f (replicate n 0) cell (omega (arith, added-length f (replicate n 0))), zeros-at n cell, h cell))
 
-  pub quality-sum-fits : (cell : ℕ) → qualitySumOf ledger values qualities cell < 2 ^ 32
-  quality-sum-fits cell = omega (arith, quality-sum-most cell)
-
-  pub value-sum-fits : (weighting : Weighting) (cell : ℕ) → valueSumOf ledger values qualities weighting cell < 2 ^ 64
-  value-sum-fits weighting cell = omega (arith, value-sum-most weighting cell)
+  pub from-nothing-fits : (weighting : Weighting) (sums : Sums) → fitWidths (addedSums weighting ledger values qualities (cleared sums)) ≡ true
+  unfolding addedSums addedFirst cleared countOf qualitySumOf valueSumOf
+  from-nothing-fits weighting sums =
+      all-fit _
+      (from-zeros (countOf ledger values qualities) most32 (length (sums .counts)) (λ cell. omega (arith, count-most cell)))
+      (from-zeros (qualitySumOf ledger values qualities) most32 (length (sums .qualitySums)) (λ cell. omega (arith, quality-sum-most cell)))
+      (from-zeros (valueSumOf ledger values qualities weighting) most64 (length (sums .valueSums)) (λ cell. omega (arith, value-sum-most weighting cell)))

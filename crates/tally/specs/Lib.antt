@@ -1,4 +1,5 @@
 pub mod Gates
 pub mod LentSums
 pub mod Tally
+pub mod Width
 pub mod TallyRoom

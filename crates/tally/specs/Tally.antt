@@ -50,9 +50,14 @@ cleared sums = record {
 unfoldable pub added : (ℕ → ℕ) → List ℕ → List ℕ
 added share held = table (λ cell. getD held cell 0 + share cell) (length held)
 
-unfoldable pub addedSums : Weighting → List ℕ → List ℕ → List ℕ → Sums → Sums
-addedSums weighting ledger values qualities sums = record {
-  counts = added (countOf ledger values qualities) (sums .counts);
-  qualitySums = added (qualitySumOf ledger values qualities) (sums .qualitySums);
-  valueSums = added (valueSumOf ledger values qualities weighting) (sums .valueSums);
+-- the first n gates
+unfoldable pub addedFirst : Weighting → List ℕ → List ℕ → List ℕ → ℕ → Sums → Sums
+addedFirst weighting ledger values qualities n sums = record {
+  counts = added (sumOver ledger values qualities (λ value quality. 1) n) (sums .counts);
+  qualitySums = added (sumOver ledger values qualities (λ value quality. quality) n) (sums .qualitySums);
+  valueSums = added (sumOver ledger values qualities (weighed weighting) n) (sums .valueSums);
 }
+
+-- all gates
+unfoldable pub addedSums : Weighting → List ℕ → List ℕ → List ℕ → Sums → Sums
+addedSums weighting ledger values qualities sums = addedFirst weighting ledger values qualities (length ledger) sums

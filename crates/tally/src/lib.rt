@@ -1,8 +1,10 @@
 // What the gates give to their cells: counts and sums.
 mod clear;
 mod gates;
+mod room;
 mod tally_gates;
 
 pub use clear::clear_sums;
 pub use gates::Weighting;
-pub use tally_gates::tally;
+pub use gates::weigh;
+pub use tally_gates::add_gates;

@@ -1,13 +1,13 @@
 // Counts and sums of the cells, from the ledger.
 use crate::gates::Weighting;
 use crate::gates::weigh;
-ghost use mathlib.Core.Path.{_≡_};
+use crate::room::has_room;
 ghost use Rattle.tally.specs.LentSums.{sumsHeld, lentSums};
-ghost use Rattle.tally.specs.Tally.{addedSums};
-ghost use Rattle.tally.specs.TallyRoom.{Addable};
+ghost use Rattle.tally.specs.TallyRoom.{Addable, AddsGates};
 
-// Adds gates onto what the sums hold. For our own crates: they have tested the lists' lengths, and that no sum passes its width.
-pub fn tally(
+// Adds gate after gate onto what the sums hold, up to the first by which a count or sum would pass its width; says how many were added.
+// For our own crates: they have tested the lists' lengths.
+pub fn add_gates(
     weighting: Weighting,
     ledger: &[u32],
     values: &[u16],
@@ -15,11 +15,9 @@ pub fn tally(
     counts: &mut [u32],
     quality_sums: &mut [u32],
     value_sums: &mut [u64],
-)
-    requires { ⌜ Addable weighting (now ledger) (now values) (now qualities) (sumsHeld counts «quality_sums» «value_sums») ⌝ }
-    ensures { λ _.
-        let sums = lentSums counts «quality_sums» «value_sums» in
-        ⌜ sums .exit ≡ addedSums weighting (now (ledger .entry)) (now (values .entry)) (now (qualities .entry)) (sums .entry) ⌝ }
+) -> usize
+    requires { ⌜ Addable (now ledger) (now values) (now qualities) (sumsHeld counts «quality_sums» «value_sums») ⌝ }
+    ensures { λ r. ⌜ AddsGates weighting (now (ledger .entry)) (now (values .entry)) (now (qualities .entry)) (lentSums counts «quality_sums» «value_sums») r ⌝ }
 {
     let mut k = 0;
     while k < ledger.len() {
@@ -34,9 +32,20 @@ pub fn tally(
             k += 1;
             continue;
         }
+        let share = weigh(weighting, value, quality);
+        if !has_room(
+            counts[cell],
+            quality_sums[cell],
+            value_sums[cell],
+            quality,
+            share,
+        ) {
+            return k;
+        }
         counts[cell] = counts[cell] + 1;
         quality_sums[cell] = quality_sums[cell] + quality as u32;
-        value_sums[cell] = value_sums[cell] + weigh(weighting, value, quality);
+        value_sums[cell] = value_sums[cell] + share;
         k += 1;
     }
+    k
 }

@@ -11,7 +11,7 @@ use lib.Dec.{leb}
 use lib.ListN.{length, getD, drop, drop-of-length-le}
 use lib.Seq.{drop-cons}
 use Rattle.arithmetic.specs.Places.{allOf}
-use Rattle.arithmetic.proofs.Test.{and-true}
+use Rattle.arithmetic.proofs.Test.{and-true, and-false}
 use Rattle.word_value.specs.WordValue.{isDigit, valueFrom, isNatural}
 
 -- ---- one byte
@@ -23,10 +23,6 @@ digit-yes b h i = rw (le-leb 48 b h, le-leb b 57 i)
 pub digit-below : (b : ℕ) → b < 48 → isDigit b ≡ false
 unfolding isDigit
 digit-below b h = rw (lt-leb 48 b h)
-
-and-false : (a : Bool) → (a && false) ≡ false
-and-false true = refl
-and-false false = refl
 
 pub digit-above : (b : ℕ) → 57 < b → isDigit b ≡ false
 unfolding isDigit

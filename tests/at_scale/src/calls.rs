@@ -28,7 +28,7 @@ fn grid_numbers(grid: Grid) -> GridNumbers {
     }
 }
 
-fn scan_numbers(head: &Head) -> ScanNumbers {
+pub fn scan_numbers(head: &Head) -> ScanNumbers {
     ScanNumbers {
         site: site_numbers(head.site),
         rays: head.rays,

@@ -3,23 +3,39 @@
 use crate::handed_in::beyond_32_bits;
 use crate::kinds::{Kind, KINDS};
 use crate::outcome::Outcome;
+use crate::sweep_state::CALLS;
 use std::collections::{BTreeMap, BTreeSet};
 
-/// Document 01's refusal numbers.
-pub const REFUSALS: [usize; 14] = [1, 2, 3, 4, 5, 6, 7, 8, 11, 12, 13, 14, 15, 16];
+/// The refusal numbers of document 01 and of T-01.
+pub const REFUSALS: [u32; 18] = [
+    1, 2, 3, 4, 5, 6, 7, 8, 11, 12, 13, 14, 15, 16, 17, 18, 19, 31,
+];
 
 #[derive(Default)]
 struct KindCounts {
     cases: u64,
     gates: u64,
-    answers: [u64; 17],
-    /// For each number that is handed in, the cases in which 32 bits do not hold it.
+    /// How often each call had each answer.
+    answers: BTreeMap<(&'static str, u32), u64>,
+    /// For each number that is handed in, how often 32 bits do not hold it.
     beyond: BTreeMap<&'static str, u64>,
 }
 
 impl KindCounts {
+    fn calls(&self) -> u64 {
+        self.answers.values().sum()
+    }
+
+    fn answered(&self, number: u32) -> u64 {
+        let these = self
+            .answers
+            .iter()
+            .filter(|((_, given), _)| *given == number);
+        these.map(|(_, times)| times).sum()
+    }
+
     fn refused(&self) -> u64 {
-        self.cases - self.answers[0]
+        self.calls() - self.answered(0)
     }
 }
 
@@ -36,7 +52,12 @@ impl Counts {
         let counts = &mut self.kinds[kind as usize];
         counts.cases += 1;
         counts.gates += outcome.gates as u64;
-        counts.answers[outcome.answer as usize] += 1;
+        for answer in &outcome.answers {
+            *counts
+                .answers
+                .entry((answer.call, answer.number))
+                .or_default() += 1;
+        }
         for &(name, number) in &outcome.handed_in {
             *counts.beyond.entry(name).or_default() += u64::from(beyond_32_bits(number));
         }
@@ -45,11 +66,16 @@ impl Counts {
         self.differences += u64::from(outcome.difference.is_some());
     }
 
-    fn refused_by(&self, number: usize) -> u64 {
-        self.kinds.iter().map(|kind| kind.answers[number]).sum()
+    fn refused_by(&self, number: u32) -> u64 {
+        self.kinds.iter().map(|kind| kind.answered(number)).sum()
     }
 
-    /// What no case tried: refusal numbers and, for each kind, numbers that 32 bits do not hold.
+    fn of_sweep(&self, call: &'static str, number: u32) -> u64 {
+        let answers = &self.kinds[Kind::Sweep as usize].answers;
+        answers.get(&(call, number)).copied().unwrap_or(0)
+    }
+
+    /// What no case tried: refusal numbers, answers to a sweep's calls and, for each kind, numbers that 32 bits do not hold.
     pub fn missing(&self) -> Vec<String> {
         let refusals = REFUSALS
             .into_iter()
@@ -60,7 +86,14 @@ impl Counts {
             let always = numbers.filter(|(_, &cases)| cases == 0);
             always.map(move |(name, _)| format!("32 bits held every {name} in {}", kind.title()))
         };
+        let answers_to = |&(call, numbers): &(&'static str, &'static [u32])| {
+            let never = numbers
+                .iter()
+                .filter(move |&&number| self.of_sweep(call, number) == 0);
+            never.map(move |number| format!("no call was answered by {number}: {call}"))
+        };
         refusals
+            .chain(CALLS.iter().flat_map(answers_to))
             .chain(KINDS.into_iter().flat_map(in_32_bits))
             .collect()
     }
@@ -75,6 +108,21 @@ impl Counts {
         println!();
     }
 
+    /// A line for each call of a sweep and the state that is handed in.
+    fn print_sweeps(&self) {
+        println!("answers to the calls of a sweep:");
+        for (call, _) in CALLS {
+            print!("{call:>21}");
+            for number in [0].into_iter().chain(REFUSALS) {
+                match self.of_sweep(call, number) {
+                    0 => {}
+                    times => print!("  {number}: {times}"),
+                }
+            }
+            println!();
+        }
+    }
+
     /// A column for each kind; a row for each refusal number, and for each number that is handed in.
     pub fn print(&self) {
         print!("{:>10}", "");
@@ -83,14 +131,16 @@ impl Counts {
         }
         println!();
         self.print_row("cases", |counts| Some(counts.cases));
+        self.print_row("calls", |counts| Some(counts.calls()));
         self.print_row("gates", |counts| Some(counts.gates));
         self.print_row("refused", |counts| Some(counts.refused()));
         for number in REFUSALS {
             self.print_row(&format!("by {number}"), |counts| {
-                Some(counts.answers[number])
+                Some(counts.answered(number))
             });
         }
-        println!("cases with a number that 32 bits do not hold:");
+        self.print_sweeps();
+        println!("calls with a number that 32 bits do not hold:");
         let names: BTreeSet<_> = self
             .kinds
             .iter()

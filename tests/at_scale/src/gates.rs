@@ -130,5 +130,5 @@ pub fn compare(case: &Case, tables: &Tables) -> Outcome {
     let plain = place(tables, site, grid, azimuth, range);
     let library = calls::place(site, grid, azimuth, range);
     let difference = compare_answers("place", &library, &plain);
-    Outcome::new(&plain, 1, case.handed_in(), difference)
+    Outcome::new("place", &plain, 1, case.handed_in(), difference)
 }

@@ -2,7 +2,7 @@
 
 use crate::draw::Draw;
 use crate::outcome::Outcome;
-use crate::{gates, records_read, records_written, scans};
+use crate::{gates, records_read, records_written, scans, sweep_draw, sweeps};
 use plain_program::sine::Tables;
 use std::panic::catch_unwind;
 
@@ -10,11 +10,18 @@ use std::panic::catch_unwind;
 pub enum Kind {
     Gate,
     Scan,
+    Sweep,
     Written,
     Read,
 }
 
-pub const KINDS: [Kind; 4] = [Kind::Gate, Kind::Scan, Kind::Written, Kind::Read];
+pub const KINDS: [Kind; 5] = [
+    Kind::Gate,
+    Kind::Scan,
+    Kind::Sweep,
+    Kind::Written,
+    Kind::Read,
+];
 
 impl Kind {
     /// As it is given on the command line.
@@ -22,6 +29,7 @@ impl Kind {
         match self {
             Kind::Gate => "gate",
             Kind::Scan => "scan",
+            Kind::Sweep => "sweep",
             Kind::Written => "written",
             Kind::Read => "read",
         }
@@ -32,6 +40,7 @@ impl Kind {
         match self {
             Kind::Gate => "single gates",
             Kind::Scan => "whole scans",
+            Kind::Sweep => "sweeps",
             Kind::Written => "records written",
             Kind::Read => "records read",
         }
@@ -42,6 +51,7 @@ impl Kind {
         match self {
             Kind::Gate => gates::compare(&gates::draw(draw, tables), tables),
             Kind::Scan => scans::compare(&scans::draw(draw, tables), tables),
+            Kind::Sweep => sweeps::compare(&sweep_draw::draw(draw, tables), tables),
             Kind::Written => records_written::compare(&records_written::draw(draw, tables)),
             Kind::Read => records_read::compare(&records_read::draw(draw, tables)),
         }
@@ -50,7 +60,7 @@ impl Kind {
     /// Works one case. A panic is a difference too, so that its seed is told.
     pub fn work(self, seed: u64, tables: &Tables) -> Outcome {
         catch_unwind(|| self.compare(seed, tables)).unwrap_or_else(|_| Outcome {
-            answer: 0,
+            answers: Vec::new(),
             gates: 0,
             handed_in: Vec::new(),
             difference: Some("a panic".to_string()),
@@ -63,6 +73,7 @@ impl Kind {
         match self {
             Kind::Gate => format!("{:?}", gates::draw(draw, tables)),
             Kind::Scan => format!("{:?}", scans::draw(draw, tables)),
+            Kind::Sweep => format!("{:?}", sweep_draw::draw(draw, tables)),
             Kind::Written => format!("{:?}", records_written::draw(draw, tables)),
             Kind::Read => format!("{:?}", records_read::draw(draw, tables)),
         }

@@ -25,6 +25,17 @@ impl<T: Copy + PartialEq + Debug> LentList<T> {
         &mut self.held[self.margin..end]
     }
 
+    /// So many numbers from the first of that part on, into the margin behind it at most.
+    pub fn first(&mut self, length: usize) -> &mut [T] {
+        let most = self.held.len() - self.margin;
+        &mut self.held[self.margin..][..length.min(most)]
+    }
+
+    /// The part between the margins, to be read.
+    pub fn read(&self) -> &[T] {
+        &self.held[self.margin..self.held.len() - self.margin]
+    }
+
     /// Says where the two differ first, margins and all. Places count from the start of the lent part.
     pub fn compare(&self, name: &str, other: &LentList<T>, other_name: &str) -> Option<String> {
         let mut pairs = self.held.iter().zip(&other.held);

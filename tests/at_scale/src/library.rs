@@ -3,6 +3,7 @@
 
 use plain_program::placement::{Grid, Placement, Site, HRAP_KIND, HRAP_SIDE, RADOLAN_KIND};
 use plain_program::scan::{Head, BY_QUALITY, PLAIN};
+use uldrevin::exports::ScanNumbers;
 
 pub fn to_site(site: Site) -> uldrevin::Site {
     uldrevin::Site {
@@ -85,6 +86,28 @@ pub fn from_head(head: uldrevin::ScanHead) -> Head {
             uldrevin::Weighting::Plain => PLAIN,
             uldrevin::Weighting::ByQuality => BY_QUALITY,
         },
+    }
+}
+
+pub fn from_numbers(numbers: ScanNumbers) -> Head {
+    Head {
+        site: Site {
+            latitude: numbers.site.latitude,
+            longitude: numbers.site.longitude,
+        },
+        rays: numbers.rays,
+        gates: numbers.gates,
+        first: numbers.first,
+        spacing: numbers.spacing,
+        grid: Grid {
+            kind: numbers.grid.kind,
+            x: numbers.grid.x,
+            y: numbers.grid.y,
+            side: numbers.grid.side,
+            columns: numbers.grid.columns,
+            rows: numbers.grid.rows,
+        },
+        weighting: numbers.weighting,
     }
 }
 

@@ -16,21 +16,32 @@ mod records_written;
 mod scan_input;
 mod scans;
 mod sites_and_grids;
+mod six_lists;
+mod sweep_alter;
+mod sweep_caller;
+mod sweep_calls;
+mod sweep_draw;
+mod sweep_held;
+mod sweep_state;
+mod sweep_step;
+mod sweep_whole;
+mod sweeps;
 
 use at_scale::library;
 use command::{command, Amount, Command, USAGE};
 use counts::Counts;
 use draw::Draw;
 use kinds::Kind;
-use outcome::Outcome;
+use outcome::{Answer, Outcome};
 use plain_program::sine::Tables;
 use std::process::ExitCode;
 use std::time::Instant;
 
 /// How often each kind comes before the first comes again.
-const ROUND: [(Kind, usize); 4] = [
+const ROUND: [(Kind, usize); 5] = [
     (Kind::Gate, 60),
     (Kind::Scan, 15),
+    (Kind::Sweep, 15),
     (Kind::Written, 15),
     (Kind::Read, 40),
 ];
@@ -40,8 +51,8 @@ const MOST_PRINTED: u64 = 10;
 /// The command that works something again, without its last words.
 const AGAIN: &str = "cargo run --release --offline -p at_scale --";
 
-/// In so many cases each refusal number, and each number that 32 bits do not hold, comes up dozens of times, so one that does not is an
-/// error.
+/// In so many cases each refusal number, also in each state of a sweep, and each number that 32 bits do not hold, comes up dozens of times,
+/// so one that does not is an error.
 const CASES_FOR_ALL: u64 = 100_000;
 
 fn print_difference(kind: Kind, seed: u64, outcome: &Outcome, counts: &Counts) {
@@ -108,7 +119,9 @@ fn run(amount: Amount, seed: u64, tables: &Tables) -> ExitCode {
 fn one_case(kind: Kind, seed: u64, tables: &Tables) -> ExitCode {
     println!("{}", kind.input(seed, tables));
     let outcome = kind.work(seed, tables);
-    println!("answer of the plain program: {}", outcome.answer);
+    for Answer { call, number } in &outcome.answers {
+        println!("answer of the plain program to {call}: {number}");
+    }
     match outcome.difference {
         None => println!("no difference"),
         Some(ref difference) => println!("DIFFERENCE: {difference}"),

@@ -3,10 +3,18 @@
 use crate::handed_in::Named;
 use std::fmt::Debug;
 
+/// The plain program's answer to a call.
+#[derive(Clone, Copy, Debug, PartialEq, Eq)]
+pub struct Answer {
+    pub call: &'static str,
+    /// The refusal number, 0 where nothing is refused.
+    pub number: u32,
+}
+
 pub struct Outcome {
-    /// The refusal number that the plain program gives, 0 where it refuses nothing.
-    pub answer: u32,
-    /// The gates of an accepted case; a refused case has none.
+    /// One for each call of the case.
+    pub answers: Vec<Answer>,
+    /// The gates of accepted calls; a refused call has none.
     pub gates: usize,
     /// The numbers that were handed in, other than those of lists and records.
     pub handed_in: Vec<Named>,
@@ -15,18 +23,20 @@ pub struct Outcome {
 }
 
 impl Outcome {
+    /// Of a case that is one call.
     pub fn new<T>(
+        call: &'static str,
         plain: &Result<T, u32>,
         gates: usize,
         handed_in: Vec<Named>,
         difference: Option<String>,
     ) -> Outcome {
-        let (answer, gates) = match plain {
+        let (number, gates) = match plain {
             Ok(_) => (0, gates),
             Err(number) => (*number, 0),
         };
         Outcome {
-            answer,
+            answers: vec![Answer { call, number }],
             gates,
             handed_in,
             difference,

@@ -197,5 +197,5 @@ pub fn compare(case: &Case) -> Outcome {
     let difference = compare_answers("head", &library_head, &head)
         .or_else(|| numbers.find_map(|number| compare_field(record, &head, number)))
         .or(in_lists);
-    Outcome::new(&plain, case.lengths[1], Vec::new(), difference)
+    Outcome::new("read", &plain, case.lengths[1], Vec::new(), difference)
 }

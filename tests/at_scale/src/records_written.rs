@@ -83,5 +83,11 @@ pub fn compare(case: &Case) -> Outcome {
     let difference = compare_answers("write", &library, &plain)
         .or_else(|| with_library.compare("buffer", &with_plain, "the plain program"))
         .or_else(unchanged);
-    Outcome::new(&plain, scan.values.len(), scan_numbers(head), difference)
+    Outcome::new(
+        "write",
+        &plain,
+        scan.values.len(),
+        scan_numbers(head),
+        difference,
+    )
 }

@@ -38,6 +38,22 @@ impl ScanInput {
             qualities: &self.qualities,
         }
     }
+
+    /// So many rays from one on, all numbers but that of the rays kept; after the last ray comes the first again.
+    pub fn rays_from(&self, first: usize, count: usize) -> ScanInput {
+        let gates = self.head.gates as usize;
+        let rays = (first..first + count).map(|ray| ray % self.azimuths.len());
+        let gate_places = rays.clone().flat_map(|ray| ray * gates..(ray + 1) * gates);
+        ScanInput {
+            head: Head {
+                rays: count as i64,
+                ..self.head
+            },
+            azimuths: rays.map(|ray| self.azimuths[ray]).collect(),
+            values: gate_places.clone().map(|gate| self.values[gate]).collect(),
+            qualities: gate_places.map(|gate| self.qualities[gate]).collect(),
+        }
+    }
 }
 
 /// Rays, gates in a ray, and the most columns and rows.
@@ -208,7 +224,8 @@ fn spoil_length<T: Clone + Default>(draw: &mut Draw, list: &mut Vec<T>) {
     list.resize(draw.wrong_length(list.len()), T::default());
 }
 
-fn spoil_lengths(draw: &mut Draw, scan: &mut ScanInput) {
+/// Spoils the length of a list.
+pub fn spoil_lengths(draw: &mut Draw, scan: &mut ScanInput) {
     match draw.below(3) {
         0 => spoil_length(draw, &mut scan.azimuths),
         1 => spoil_length(draw, &mut scan.values),

@@ -1,7 +1,8 @@
-//! Times of a whole scan by the library, of the same gates by single calls, of the plain program, and of numpy with PROJ.
+//! Times of a whole scan by the library, of the same gates fed to a sweep and by single calls, of the plain program, and of numpy with
+//! PROJ.
 //!
-//! Every round works the whole scan and the plain program, every tenth the single calls too, and the best round of each counts. Nothing is
-//! asserted about speed; before anything is timed, the ledgers and cells have to be the same.
+//! Every round works the whole scan and the plain program, for the scan of the full size the sweeps, every tenth the single calls too, and
+//! the best round of each counts. Nothing is asserted about speed; before anything is timed, the ledgers and cells have to be the same.
 
 mod measure;
 mod pipeline;
@@ -10,6 +11,7 @@ mod report;
 mod scene;
 mod stack;
 mod stack_of_calls;
+mod sweep;
 
 use measure::measure;
 use pipeline::Pipeline;
@@ -39,5 +41,6 @@ fn main() {
     report::print_times(&measured);
     report::print_ratios(&measured);
     report::print_growth(&measured);
+    report::print_sweeps(&measured);
     stack_of_calls::print_stack(&scene::hrap(FULL_SIZE.0, FULL_SIZE.1));
 }

@@ -11,6 +11,8 @@ use uldrevin::{place, remap_into, Remapped, OUTSIDE};
 use crate::pipeline::{self, Pipeline};
 use crate::plain;
 use crate::scene::{lists_of, Scene};
+use crate::sweep::swept;
+use crate::FULL_SIZE;
 
 const LEAST_ROUNDS: u32 = 20;
 /// How long one scene is worked, once it has had the least rounds.
@@ -18,11 +20,16 @@ const PATIENCE: Duration = Duration::from_secs(10);
 /// Single calls take many times as long as a whole scan, and come once in so many rounds.
 const ROUNDS_A_SINGLE: u32 = 10;
 
+/// Rays that a sweep takes at a time.
+pub const GROUPS: [usize; 2] = [1, 30];
+
 /// Nanoseconds a gate.
 pub struct Times {
     pub whole: f64,
     pub single: f64,
     pub plain: f64,
+    /// For each of GROUPS, where the scene has the full size.
+    pub sweeps: Option<[f64; GROUPS.len()]>,
     pub pipeline: Option<pipeline::Measured>,
     pub rounds: u32,
 }
@@ -58,6 +65,11 @@ fn plain_scan(tables: &Tables, scene: &Scene, lists: &mut Remapped) -> u32 {
     plain::whole_scan(tables, scene, lists).err().unwrap_or(0)
 }
 
+/// The scenes that are fed to a sweep too.
+fn is_swept(scene: &Scene) -> bool {
+    (scene.head.rays, scene.head.gates) == FULL_SIZE
+}
+
 /// Ends the run where two lists differ.
 fn same<T: PartialEq + Display>(name: &str, one: &[T], other: &[T], who: &str) {
     if let Some(place) = one.iter().zip(other).position(|(a, b)| a != b) {
@@ -69,7 +81,30 @@ fn same<T: PartialEq + Display>(name: &str, one: &[T], other: &[T], who: &str) {
     }
 }
 
-/// Works all three once and compares what they give; answers the lists.
+/// Ends the run where the six lists differ.
+fn same_lists(whole: &Remapped, other: &Remapped, who: &str) {
+    same("ledger", &whole.ledger, &other.ledger, who);
+    same("count", &whole.counts, &other.counts, who);
+    same("quality sum", &whole.quality_sums, &other.quality_sums, who);
+    same("value sum", &whole.value_sums, &other.value_sums, who);
+    same("mean", &whole.means, &other.means, who);
+    same("quality", &whole.cell_qualities, &other.cell_qualities, who);
+}
+
+/// Works the sweeps once and compares what they give with the whole scan.
+fn check_sweeps(scene: &Scene, whole: &Remapped) {
+    for group in GROUPS {
+        let mut lists = lists_of(scene);
+        let answer = swept(scene, group, &mut lists);
+        if answer != 0 {
+            println!("refused: a sweep of {group} rays at a time, by {answer}");
+            exit(1);
+        }
+        same_lists(whole, &lists, &format!("a sweep of {group} rays at a time"));
+    }
+}
+
+/// Works all of them once and compares what they give; answers the lists.
 fn checked(tables: &Tables, scene: &Scene) -> Remapped {
     let (mut whole, mut plain) = (lists_of(scene), lists_of(scene));
     let mut ledger = vec![1; whole.ledger.len()];
@@ -82,14 +117,11 @@ fn checked(tables: &Tables, scene: &Scene) -> Remapped {
         println!("refused: the answers are {answers:?}");
         exit(1);
     }
-    let who = "the plain program";
     same("ledger", &whole.ledger, &ledger, "single calls");
-    same("ledger", &whole.ledger, &plain.ledger, who);
-    same("count", &whole.counts, &plain.counts, who);
-    same("quality sum", &whole.quality_sums, &plain.quality_sums, who);
-    same("value sum", &whole.value_sums, &plain.value_sums, who);
-    same("mean", &whole.means, &plain.means, who);
-    same("quality", &whole.cell_qualities, &plain.cell_qualities, who);
+    same_lists(&whole, &plain, "the plain program");
+    if is_swept(scene) {
+        check_sweeps(scene, &whole);
+    }
     whole
 }
 
@@ -100,22 +132,26 @@ fn timed(work: impl FnOnce() -> u32) -> f64 {
     start.elapsed().as_nanos() as f64
 }
 
-/// Nanoseconds of the whole scan, of single calls and of the plain program, in one round.
-fn round(tables: &Tables, scene: &Scene, lists: &mut [Remapped; 2], with_single: bool) -> [f64; 3] {
+/// Nanoseconds of the whole scan, of single calls, of the plain program and of the sweeps, in one round.
+fn round(tables: &Tables, scene: &Scene, lists: &mut [Remapped; 2], with_single: bool) -> [f64; 5] {
     let [first, second] = black_box(lists);
     let whole = timed(|| whole_scan(scene, first));
+    let [ray_by_ray, in_groups] = match is_swept(scene) {
+        true => GROUPS.map(|group| timed(|| swept(scene, group, first))),
+        false => [f64::INFINITY; 2],
+    };
     let plain = timed(|| plain_scan(tables, scene, second));
     let single = match with_single {
         true => timed(|| single_calls(scene, &mut second.ledger)),
         false => f64::INFINITY,
     };
-    [whole, single, plain]
+    [whole, single, plain, ray_by_ray, in_groups]
 }
 
 pub fn measure(tables: &Tables, scene: &Scene, pipeline: Option<&Pipeline>) -> Times {
     let mut lists = [checked(tables, scene), lists_of(scene)];
     let pipeline = pipeline.and_then(|found| found.measure(scene, &lists[0].ledger));
-    let (mut best, mut rounds, start) = ([f64::INFINITY; 3], 0, Instant::now());
+    let (mut best, mut rounds, start) = ([f64::INFINITY; 5], 0, Instant::now());
     while rounds < LEAST_ROUNDS || start.elapsed() < PATIENCE {
         let with_single = rounds % ROUNDS_A_SINGLE == 0;
         let took = round(tables, black_box(scene), &mut lists, with_single);
@@ -124,11 +160,13 @@ pub fn measure(tables: &Tables, scene: &Scene, pipeline: Option<&Pipeline>) -> T
         }
         rounds += 1;
     }
-    let [whole, single, plain] = best.map(|time| time / scene.values.len() as f64);
+    let [whole, single, plain, ray_by_ray, in_groups] =
+        best.map(|time| time / scene.values.len() as f64);
     Times {
         whole,
         single,
         plain,
+        sweeps: is_swept(scene).then_some([ray_by_ray, in_groups]),
         pipeline,
         rounds,
     }

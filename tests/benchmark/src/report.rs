@@ -1,6 +1,6 @@
-//! The tables of times, ratios and growth.
+//! The tables of times, ratios, growth and sweeps.
 
-use crate::measure::Times;
+use crate::measure::{Times, GROUPS};
 use crate::scene::Scene;
 use crate::FULL_SIZE;
 
@@ -76,6 +76,27 @@ pub fn print_growth(measured: &[(Scene, Times)]) {
             growth * times.whole / base.whole,
             growth * times.plain / base.plain,
         );
+    }
+    println!();
+}
+
+/// The time of a sweep beside that of the whole scan.
+pub fn print_sweeps(measured: &[(Scene, Times)]) {
+    println!("Sweeps of the same gates, each opened, fed and closed");
+    println!();
+    println!("| grid | rays x gates | rays at a time | nanoseconds a gate | sweep / whole scan |");
+    println!("|---|---|---|---|---|");
+    for (scene, times) in measured {
+        let sweeps = times.sweeps.into_iter().flatten();
+        for (group, time) in GROUPS.into_iter().zip(sweeps) {
+            println!(
+                "| {} | {} x {} | {group} | {time:.1} | {:.2} |",
+                scene.name,
+                scene.head.rays,
+                scene.head.gates,
+                time / times.whole,
+            );
+        }
     }
     println!();
 }

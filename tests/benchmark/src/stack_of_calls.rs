@@ -2,7 +2,9 @@
 
 use std::hint::black_box;
 
-use uldrevin::{place, read_record_into, record_head, remap_into, sine, write_record_into};
+use uldrevin::{
+    place, read_record_into, record_head, remap_into, sine, write_record_into, SumLists, Sweep,
+};
 
 use crate::scene::{hrap, lists_of, Scene};
 use crate::stack::used;
@@ -35,6 +37,26 @@ fn print_records() {
     print_row("write_record_into", written);
 }
 
+/// All rays are taken at once.
+fn print_sweep(scene: &Scene) {
+    let (head, mut lists) = (scene.head, lists_of(scene));
+    let sums = &mut SumLists {
+        counts: &mut lists.counts,
+        quality_sums: &mut lists.quality_sums,
+        value_sums: &mut lists.value_sums,
+    };
+    let good = "a good scan";
+    let mut sweep = Sweep::open(head, sums).expect(good);
+    let opened = used(|| sweep = Sweep::open(head, sums).expect(good));
+    let rays = scene.gate_lists();
+    let taken = used(|| sweep = sweep.take(rays, &mut lists.ledger, sums).expect(good));
+    let (means, cell_qualities) = (&mut lists.means, &mut lists.cell_qualities);
+    let closed = used(|| sweep.close(sums, means, cell_qualities).expect(good));
+    print_row("Sweep::open", opened);
+    print_row("Sweep::take", taken);
+    print_row("Sweep::close", closed);
+}
+
 pub fn print_stack(scene: &Scene) {
     let (head, mut lists) = (scene.head, lists_of(scene));
     println!("Bytes of stack, the Rust wrapper's among them");
@@ -45,5 +67,6 @@ pub fn print_stack(scene: &Scene) {
     print_row("place", used(|| place(head.site, head.grid, 5, 5)));
     let remapped = used(|| remap_into(head, scene.gate_lists(), lists.lists()));
     print_row("remap_into", remapped);
+    print_sweep(scene);
     print_records();
 }

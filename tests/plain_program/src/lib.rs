@@ -1,12 +1,13 @@
-//! The rules of document 01 in plain Rust, written from document 01 alone. No code is shared with the library.
+//! The rules of document 01 and of T-01 in document 02 in plain Rust, written from these alone. No code is shared with the library.
 //!
 //! - `sine`: the tables S, F and G, and sine and cosine of any angle
 //! - `placement`: a gate to its position and cell, and the refusals of one gate
 //! - `scan`: a whole scan to its ledger, sums and cells, and the refusals of a scan
 //! - `record`: a scan record read and written, and the refusals of a record
+//! - `sweep`: T-01's scan that is opened, fed with rays and closed, and its refusals
 //!
-//! The numbers of a site, a grid, a scan's head and a single gate may be any of 64 bits. A refusal is given as its number in document 01,
-//! the error of a `Result`.
+//! The numbers of a site, a grid, a scan's head, a sweep's state and a single gate may be any of 64 bits. A refusal is given as its number
+//! there, the error of a `Result`.
 
 #[cfg(test)]
 mod example;
@@ -14,3 +15,4 @@ pub mod placement;
 pub mod record;
 pub mod scan;
 pub mod sine;
+pub mod sweep;

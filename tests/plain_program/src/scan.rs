@@ -26,6 +26,7 @@ pub const OUTSIDE: u32 = 4_294_967_295;
 pub const NO_ECHO: u16 = 65_534;
 pub const NOT_MEASURED: u16 = 65_535;
 pub const NO_MEAN: u16 = 65_535;
+pub const LARGEST_MEAN: u64 = 65_533;
 
 /// A scan's numbers, without its lists.
 #[derive(Clone, Copy, Debug, PartialEq, Eq)]
@@ -58,6 +59,14 @@ pub struct Lent<'a> {
     pub cell_qualities: &'a mut [u8],
 }
 
+/// The sums of the cells.
+#[derive(Clone, Copy, Debug)]
+pub struct Sums<'a> {
+    pub counts: &'a [u32],
+    pub quality_sums: &'a [u32],
+    pub value_sums: &'a [u64],
+}
+
 /// Refusal 3, of a head whose number of gates is good.
 fn check_centres(head: &Head) -> Result<(), u32> {
     let good = RANGES.contains(&head.first)
@@ -85,7 +94,7 @@ fn gate_lengths(head: &Head) -> (usize, usize) {
 }
 
 /// Columns x rows of a grid that passed 5.
-fn cell_length(grid: Grid) -> usize {
+pub(crate) fn cell_length(grid: Grid) -> usize {
     (grid.columns * grid.rows) as usize
 }
 
@@ -161,6 +170,17 @@ fn fill_ledger(
     }
 }
 
+/// The entries of the gates of rays with these azimuths.
+pub(crate) fn ledger_of(tables: &Tables, head: &Head, azimuths: &[u32], ledger: &mut [u32]) {
+    if head.grid.kind == RADOLAN_KIND {
+        let window = Window::of_radolan(head.grid);
+        fill_ledger(tables, head, &RADOLAN, &window, azimuths, ledger);
+    } else {
+        let window = Window::of_hrap(head.grid);
+        fill_ledger(tables, head, &HRAP, &window, azimuths, ledger);
+    }
+}
+
 fn tally(weighting: i64, given: Given, lent: &mut Lent) {
     lent.counts.fill(0);
     lent.quality_sums.fill(0);
@@ -180,20 +200,21 @@ fn tally(weighting: i64, given: Given, lent: &mut Lent) {
     }
 }
 
-fn publish(weighting: i64, lent: &mut Lent) {
-    for cell in 0..lent.counts.len() {
-        let (count, quality_sum) = (lent.counts[cell], lent.quality_sums[cell]);
+/// A mean of the sums of measured gates is at most 65,533 and their quality at most 100; those of altered sums may be more (T-01).
+pub(crate) fn publish(weighting: i64, sums: Sums, means: &mut [u16], cell_qualities: &mut [u8]) {
+    for cell in 0..sums.counts.len() {
+        let (count, quality_sum) = (sums.counts[cell], sums.quality_sums[cell]);
         let divisor = u64::from(match weighting {
             PLAIN => count,
             _ => quality_sum,
         });
-        lent.means[cell] = match divisor {
-            0 => NO_MEAN,
-            _ => (lent.value_sums[cell] / divisor) as u16,
+        means[cell] = match sums.value_sums[cell].checked_div(divisor) {
+            Some(mean @ 0..=LARGEST_MEAN) => mean as u16,
+            _ => NO_MEAN,
         };
-        lent.cell_qualities[cell] = match count {
-            0 => 0,
-            _ => (quality_sum / count) as u8,
+        cell_qualities[cell] = match quality_sum.checked_div(count) {
+            Some(quality) => quality.min(u32::from(MOST_QUALITY)) as u8,
+            None => 0,
         };
     }
 }
@@ -201,16 +222,14 @@ fn publish(weighting: i64, lent: &mut Lent) {
 /// Remaps the scan into the lent lists, or answers the lowest refusal of 1 to 8 and leaves the lists alone.
 pub fn remap(tables: &Tables, head: &Head, given: Given, lent: &mut Lent) -> Result<(), u32> {
     check(head, given, lent)?;
-    let azimuths = given.azimuths;
-    if head.grid.kind == RADOLAN_KIND {
-        let window = Window::of_radolan(head.grid);
-        fill_ledger(tables, head, &RADOLAN, &window, azimuths, lent.ledger);
-    } else {
-        let window = Window::of_hrap(head.grid);
-        fill_ledger(tables, head, &HRAP, &window, azimuths, lent.ledger);
-    }
+    ledger_of(tables, head, given.azimuths, lent.ledger);
     tally(head.weighting, given, lent);
-    publish(head.weighting, lent);
+    let sums = Sums {
+        counts: lent.counts,
+        quality_sums: lent.quality_sums,
+        value_sums: lent.value_sums,
+    };
+    publish(head.weighting, sums, lent.means, lent.cell_qualities);
     Ok(())
 }
 

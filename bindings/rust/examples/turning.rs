@@ -1,0 +1,74 @@
+//! Reads a scan record from standard input, feeds its rays one at a time to a sweep, and prints its grid, as the program sheet does.
+
+use std::io::{self, Read, Write};
+use std::process::ExitCode;
+
+use uldrevin::{read_record, GateLists, Refusal, ScanRead, SumLists, Sweep};
+
+struct Cells {
+    means: Vec<u16>,
+    qualities: Vec<u8>,
+    counts: Vec<u32>,
+}
+
+fn swept(scan: &ScanRead) -> Result<Cells, Refusal> {
+    let (gates, cells) = (scan.head.gates as usize, scan.head.all_cells());
+    let mut ledger = vec![0; scan.head.all_gates()];
+    let (mut counts, mut quality_sums) = (vec![0; cells], vec![0; cells]);
+    let (mut value_sums, mut means, mut qualities) =
+        (vec![0; cells], vec![0; cells], vec![0; cells]);
+    let mut sums = SumLists {
+        counts: &mut counts,
+        quality_sums: &mut quality_sums,
+        value_sums: &mut value_sums,
+    };
+
+    let mut sweep = Sweep::open(scan.head, &mut sums)?;
+    let rays = scan.values.chunks(gates).zip(scan.qualities.chunks(gates));
+    for (azimuth, (values, qualities)) in scan.azimuths.chunks(1).zip(rays) {
+        let ray = GateLists {
+            azimuths: azimuth,
+            values,
+            qualities,
+        };
+        sweep = sweep.take(ray, &mut ledger, &mut sums)?;
+    }
+    sweep.close(&sums, &mut means, &mut qualities)?;
+
+    Ok(Cells {
+        means,
+        qualities,
+        counts,
+    })
+}
+
+fn print_grid(out: &mut impl Write, scan: &ScanRead, cells: &Cells) -> io::Result<()> {
+    let columns = scan.head.grid.columns() as usize;
+    let placed: u32 = cells.counts.iter().sum();
+    writeln!(out, "grid {columns} {}", scan.head.grid.rows())?;
+    writeln!(out, "gates {} placed {placed}", scan.values.len())?;
+    for (cell, &count) in cells.counts.iter().enumerate() {
+        if count != 0 {
+            let (column, row) = (cell % columns, cell / columns);
+            let (mean, quality) = (cells.means[cell], cells.qualities[cell]);
+            writeln!(out, "{column} {row} {mean} {quality} {count}")?;
+        }
+    }
+    Ok(())
+}
+
+fn main() -> io::Result<ExitCode> {
+    let mut record = Vec::new();
+    io::stdin().read_to_end(&mut record)?;
+    let mut out = io::stdout().lock();
+    match read_record(&record).and_then(|scan| Ok((swept(&scan)?, scan))) {
+        Err(refusal) => {
+            writeln!(out, "refused {}", refusal.number)?;
+            Ok(ExitCode::FAILURE)
+        }
+        Ok((cells, scan)) => {
+            print_grid(&mut out, &scan, &cells)?;
+            Ok(ExitCode::SUCCESS)
+        }
+    }
+}

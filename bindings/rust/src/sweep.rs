@@ -1,0 +1,149 @@
+//! A sweep: a scan that is fed ray by ray while the antenna turns.
+
+use crate::exports::{self, SweepNumbers};
+use crate::numbers::sweep_of;
+use crate::refusal::done;
+use crate::{GateLists, Refusal, ScanHead};
+
+/// The sums that a sweep adds its gates to, a number a cell each.
+#[derive(Debug)]
+pub struct SumLists<'a> {
+    pub counts: &'a mut [u32],
+    pub quality_sums: &'a mut [u32],
+    pub value_sums: &'a mut [u64],
+}
+
+/// A scan in the making. Each method takes the state and gives the new one; after a refusal the caller goes on with the old one.
+///
+/// The lists are the caller's, and as long as those of the whole scan from the start. While a caller hands on the latest state and
+/// untouched lists, the ledger of the rays taken, the sums, and after closing the cells, are those that [`remap`](crate::remap) gives for
+/// the whole scan of these rays, however they were divided. The state is plain numbers, which are tested again at each call.
+///
+/// Two rays on a grid of two cells. The second is refused, and taken once it is mended:
+///
+/// ```
+/// use uldrevin::{GateLists, Grid, HrapGrid, ScanHead, Site, SumLists, Sweep, Weighting};
+///
+/// let head = ScanHead {
+///     site: Site { latitude: 600_000, longitude: -1_050_000 },
+///     rays: 2,
+///     gates: 2,
+///     first: 0,
+///     spacing: 100_000,
+///     grid: Grid::Hrap(HrapGrid { i: 400, j: 932, columns: 2, rows: 1 }),
+///     weighting: Weighting::ByQuality,
+/// };
+/// let mut sums = SumLists { counts: &mut [0; 2], quality_sums: &mut [0; 2], value_sums: &mut [0; 2] };
+/// let (mut ledger, mut means, mut cell_qualities) = ([0; 4], [0; 2], [0; 2]);
+///
+/// let mut sweep = Sweep::open(head, &mut sums)?;
+/// let ray = GateLists { azimuths: &[0], values: &[1, 7], qualities: &[90, 10] };
+/// sweep = sweep.take(ray, &mut ledger, &mut sums)?;
+///
+/// let bad = GateLists { azimuths: &[900_000], values: &[3, 5], qualities: &[101, 40] };
+/// let refusal = sweep.take(bad, &mut ledger, &mut sums).unwrap_err();
+/// assert_eq!(refusal.to_string(), "refusal 8: a quality is over 100");
+/// assert_eq!((sweep.taken, &*sums.counts), (1, &[0, 2][..]));
+///
+/// assert_eq!(sweep.close(&sums, &mut means, &mut cell_qualities).unwrap_err().number, 18); // a ray is missing
+///
+/// let mended = GateLists { qualities: &[60, 40], ..bad };
+/// sweep = sweep.take(mended, &mut ledger, &mut sums)?;
+/// sweep = sweep.close(&sums, &mut means, &mut cell_qualities)?;
+/// assert_eq!(ledger, [1, 1, 1, 1]);
+/// assert_eq!((means[1], cell_qualities[1]), (2, 50)); // (1 x 90 + 7 x 10 + 3 x 60 + 5 x 40) / 200
+///
+/// assert_eq!(sweep.take(ray, &mut ledger, &mut sums).unwrap_err().number, 19); // it is closed
+/// let altered = Sweep { closed: false, ..sweep };
+/// assert_eq!(altered.take(ray, &mut ledger, &mut sums).unwrap_err().number, 17); // both rays are taken
+/// # Ok::<(), uldrevin::Refusal>(())
+/// ```
+#[derive(Clone, Copy, Debug, PartialEq, Eq)]
+pub struct Sweep {
+    /// As opened; its rays are those announced.
+    pub head: ScanHead,
+    /// The rays taken so far.
+    pub taken: u32,
+    pub closed: bool,
+}
+
+impl Sweep {
+    /// Opens a sweep: the sums become 0. Refusals 1 to 6.
+    pub fn open(head: ScanHead, sums: &mut SumLists) -> Result<Sweep, Refusal> {
+        let (scan, mut numbers) = (head.into(), SweepNumbers::default());
+        // The structs are this function's, and every pointer to numbers goes with the length of its own list.
+        done(unsafe {
+            exports::uldrevin_sweep_open(
+                &scan,
+                sums.counts.as_mut_ptr(),
+                sums.counts.len(),
+                sums.quality_sums.as_mut_ptr(),
+                sums.quality_sums.len(),
+                sums.value_sums.as_mut_ptr(),
+                sums.value_sums.len(),
+                &mut numbers,
+            )
+        })?;
+        Ok(sweep_of(numbers))
+    }
+
+    /// Takes one ray or several, which follow those taken before. Their ledger entries are written, and the sums grow by their gates.
+    /// The ledger is that of all rays announced. Refusals, in this order: 19, 17, 1 to 5, 6 also for no rays, 7, 8, 31.
+    pub fn take(
+        self,
+        rays: GateLists,
+        ledger: &mut [u32],
+        sums: &mut SumLists,
+    ) -> Result<Sweep, Refusal> {
+        let mut numbers = self.into();
+        // The struct is this function's, every pointer to numbers goes with the length of its own list, and no two of them overlap.
+        done(unsafe {
+            exports::uldrevin_sweep_take(
+                &mut numbers,
+                rays.azimuths.as_ptr(),
+                rays.azimuths.len(),
+                rays.values.as_ptr(),
+                rays.values.len(),
+                rays.qualities.as_ptr(),
+                rays.qualities.len(),
+                ledger.as_mut_ptr(),
+                ledger.len(),
+                sums.counts.as_mut_ptr(),
+                sums.counts.len(),
+                sums.quality_sums.as_mut_ptr(),
+                sums.quality_sums.len(),
+                sums.value_sums.as_mut_ptr(),
+                sums.value_sums.len(),
+            )
+        })?;
+        Ok(sweep_of(numbers))
+    }
+
+    /// Closes a sweep that has taken all its rays, and publishes its cells. From sums that a caller has altered, a mean above 65,533
+    /// becomes [`NO_MEAN`](crate::NO_MEAN) and a quality above 100 becomes 100. Refusals, in this order: 19, 17, 1 to 5, 18, 6.
+    pub fn close(
+        self,
+        sums: &SumLists,
+        means: &mut [u16],
+        cell_qualities: &mut [u8],
+    ) -> Result<Sweep, Refusal> {
+        let mut numbers = self.into();
+        // The struct is this function's, every pointer to numbers goes with the length of its own list, and no two of them overlap.
+        done(unsafe {
+            exports::uldrevin_sweep_close(
+                &mut numbers,
+                sums.counts.as_ptr(),
+                sums.counts.len(),
+                sums.quality_sums.as_ptr(),
+                sums.quality_sums.len(),
+                sums.value_sums.as_ptr(),
+                sums.value_sums.len(),
+                means.as_mut_ptr(),
+                means.len(),
+                cell_qualities.as_mut_ptr(),
+                cell_qualities.len(),
+            )
+        })?;
+        Ok(sweep_of(numbers))
+    }
+}

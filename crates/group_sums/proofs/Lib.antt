@@ -1,0 +1,2 @@
+pub mod GroupTurn
+pub mod GroupFits

@@ -1,0 +1,2 @@
+pub mod TakeOutTurn
+pub mod TakenOut

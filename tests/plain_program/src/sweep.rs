@@ -1,0 +1,465 @@
+//! Document 02, T-01: a scan that is opened, fed with one ray or several at a time, and closed.
+//!
+//! Each operation takes the state by value and gives the new one. The totals of a group are worked out in wide numbers, and nothing is
+//! written before every refusal has been ruled out.
+
+use crate::placement::{Grid, HRAP_KIND, HRAP_SIDE};
+use crate::scan::{
+    cell_length, check_contents, check_head, ledger_of, publish, Given, Head, Sums, BY_QUALITY,
+    NOT_MEASURED, NO_ECHO, OUTSIDE, PLAIN,
+};
+use crate::sine::Tables;
+use std::collections::BTreeMap;
+
+/// `closed` of a state that takes rays; any other number is closed.
+pub const OPEN: i64 = 0;
+pub const CLOSED: i64 = 1;
+
+/// Where a count of rays beyond 32 bits is taken to lie.
+const MOST_COUNTED: i64 = 4_294_967_295;
+
+/// The state of a sweep. Its numbers may be any of 64 bits.
+#[derive(Clone, Copy, Debug, PartialEq, Eq)]
+pub struct Sweep {
+    pub head: Head,
+    pub taken: i64,
+    pub closed: i64,
+}
+
+/// The sums that opening clears and rays are added to.
+#[derive(Debug)]
+pub struct LentSums<'a> {
+    pub counts: &'a mut [u32],
+    pub quality_sums: &'a mut [u32],
+    pub value_sums: &'a mut [u64],
+}
+
+impl LentSums<'_> {
+    fn read(&self) -> Sums<'_> {
+        Sums {
+            counts: self.counts,
+            quality_sums: self.quality_sums,
+            value_sums: self.value_sums,
+        }
+    }
+}
+
+/// A number of rays as it is compared: one outside 0 to 4,294,967,295 is that limit.
+fn counted(number: i64) -> i64 {
+    match number {
+        0..=MOST_COUNTED => number,
+        _ => MOST_COUNTED,
+    }
+}
+
+/// A good head as a state holds it.
+fn in_plain_form(head: Head) -> Head {
+    let side = match head.grid.kind {
+        HRAP_KIND => HRAP_SIDE,
+        _ => head.grid.side,
+    };
+    let weighting = match head.weighting {
+        PLAIN => PLAIN,
+        _ => BY_QUALITY,
+    };
+    Head {
+        grid: Grid { side, ..head.grid },
+        weighting,
+        ..head
+    }
+}
+
+/// Refusal 6 for the sums.
+fn check_sums(grid: Grid, sums: Sums) -> Result<(), u32> {
+    let cells = cell_length(grid);
+    let exact = sums.counts.len() == cells
+        && sums.quality_sums.len() == cells
+        && sums.value_sums.len() == cells;
+    exact.then_some(()).ok_or(6)
+}
+
+/// What a group adds to one cell.
+#[derive(Clone, Copy, Default)]
+struct Added {
+    count: u128,
+    quality: u128,
+    value: u128,
+}
+
+/// What a group adds to each cell that it reaches.
+fn added_by(weighting: i64, ledger: &[u32], given: Given) -> BTreeMap<usize, Added> {
+    let mut cells: BTreeMap<usize, Added> = BTreeMap::new();
+    for ((&entry, &value), &quality) in ledger.iter().zip(given.values).zip(given.qualities) {
+        if entry == OUTSIDE || value == NOT_MEASURED {
+            continue;
+        }
+        let echo = match value {
+            NO_ECHO => 0,
+            _ => u128::from(value),
+        };
+        let added = cells.entry(entry as usize).or_default();
+        added.count += 1;
+        added.quality += u128::from(quality);
+        added.value += match weighting {
+            PLAIN => echo,
+            _ => echo * u128::from(quality),
+        };
+    }
+    cells
+}
+
+/// The cell's count and sums with the group added, or refusal 31.
+fn grown(sums: Sums, cell: usize, added: Added) -> Result<(u32, u32, u64), u32> {
+    let count = u128::from(sums.counts[cell]) + added.count;
+    let quality = u128::from(sums.quality_sums[cell]) + added.quality;
+    let value = u128::from(sums.value_sums[cell]) + added.value;
+    match (count.try_into(), quality.try_into(), value.try_into()) {
+        (Ok(count), Ok(quality), Ok(value)) => Ok((count, quality, value)),
+        _ => Err(31),
+    }
+}
+
+impl Sweep {
+    /// Clears the sums and gives a state with no ray taken. Refusals 1 to 6.
+    pub fn open(head: Head, sums: LentSums) -> Result<Sweep, u32> {
+        check_head(&head)?;
+        check_sums(head.grid, sums.read())?;
+        sums.counts.fill(0);
+        sums.quality_sums.fill(0);
+        sums.value_sums.fill(0);
+        Ok(Sweep {
+            head: in_plain_form(head),
+            taken: 0,
+            closed: OPEN,
+        })
+    }
+
+    /// 19, 17 where the state with so many more rays has more than announced, and 1 to 5.
+    fn check_numbers(&self, more: usize) -> Result<(), u32> {
+        if self.closed != OPEN {
+            return Err(19);
+        }
+        if counted(self.taken) as u128 + more as u128 > counted(self.head.rays) as u128 {
+            return Err(17);
+        }
+        check_head(&self.head)
+    }
+
+    /// Refusal 6 for a group and what it is written to.
+    fn check_group(&self, given: Given, ledger: usize, sums: Sums) -> Result<(), u32> {
+        let (rays, gates) = (given.azimuths.len(), self.head.gates as usize);
+        let exact = rays >= 1
+            && given.values.len() == rays * gates
+            && given.qualities.len() == rays * gates
+            && ledger == self.head.rays as usize * gates;
+        if !exact {
+            return Err(6);
+        }
+        check_sums(self.head.grid, sums)
+    }
+
+    /// Takes the rays of a group. Refusals 19, 17, 1 to 8, 31.
+    pub fn take(
+        self,
+        tables: &Tables,
+        given: Given,
+        ledger: &mut [u32],
+        sums: LentSums,
+    ) -> Result<Sweep, u32> {
+        self.check_numbers(given.azimuths.len())?;
+        self.check_group(given, ledger.len(), sums.read())?;
+        check_contents(given.azimuths.iter().copied(), given.qualities)?;
+        let mut entries = vec![OUTSIDE; given.values.len()];
+        ledger_of(tables, &self.head, given.azimuths, &mut entries);
+        let added = added_by(self.head.weighting, &entries, given);
+        let grown: Vec<_> = added
+            .into_iter()
+            .map(|(cell, added)| Ok((cell, grown(sums.read(), cell, added)?)))
+            .collect::<Result<_, u32>>()?;
+        for (cell, (count, quality, value)) in grown {
+            sums.counts[cell] = count;
+            sums.quality_sums[cell] = quality;
+            sums.value_sums[cell] = value;
+        }
+        let first = (self.taken * self.head.gates) as usize;
+        ledger[first..][..entries.len()].copy_from_slice(&entries);
+        Ok(Sweep {
+            head: in_plain_form(self.head),
+            taken: self.taken + given.azimuths.len() as i64,
+            closed: OPEN,
+        })
+    }
+
+    /// Publishes the cells and gives a closed state. Refusals 19, 17, 1 to 5, 18, 6.
+    pub fn close(
+        self,
+        sums: Sums,
+        means: &mut [u16],
+        cell_qualities: &mut [u8],
+    ) -> Result<Sweep, u32> {
+        self.check_numbers(0)?;
+        if self.taken < self.head.rays {
+            return Err(18);
+        }
+        check_sums(self.head.grid, sums)?;
+        let cells = cell_length(self.head.grid);
+        if means.len() != cells || cell_qualities.len() != cells {
+            return Err(6);
+        }
+        publish(self.head.weighting, sums, means, cell_qualities);
+        Ok(Sweep {
+            head: in_plain_form(self.head),
+            taken: self.taken,
+            closed: CLOSED,
+        })
+    }
+}
+
+#[cfg(test)]
+mod tests {
+    use super::*;
+    use crate::example::EXAMPLE;
+    use crate::scan::NO_MEAN;
+
+    /// Both gates of a ray lie in cell 1.
+    const TWO_RAYS: Head = Head { rays: 2, ..EXAMPLE };
+
+    #[derive(Clone, Debug, PartialEq)]
+    struct Lists {
+        ledger: [u32; 4],
+        counts: [u32; 2],
+        quality_sums: [u32; 2],
+        value_sums: [u64; 2],
+        means: [u16; 2],
+        cell_qualities: [u8; 2],
+    }
+
+    const BEFORE: Lists = Lists {
+        ledger: [9; 4],
+        counts: [9; 2],
+        quality_sums: [9; 2],
+        value_sums: [9; 2],
+        means: [9; 2],
+        cell_qualities: [9; 2],
+    };
+
+    fn open(head: Head, lists: &mut Lists) -> Result<Sweep, u32> {
+        let sums = LentSums {
+            counts: &mut lists.counts,
+            quality_sums: &mut lists.quality_sums,
+            value_sums: &mut lists.value_sums,
+        };
+        Sweep::open(head, sums)
+    }
+
+    fn take(sweep: Sweep, given: Given, lists: &mut Lists) -> Result<Sweep, u32> {
+        let sums = LentSums {
+            counts: &mut lists.counts,
+            quality_sums: &mut lists.quality_sums,
+            value_sums: &mut lists.value_sums,
+        };
+        sweep.take(&Tables::new(), given, &mut lists.ledger, sums)
+    }
+
+    fn close(sweep: Sweep, lists: &mut Lists) -> Result<Sweep, u32> {
+        let sums = Sums {
+            counts: &lists.counts,
+            quality_sums: &lists.quality_sums,
+            value_sums: &lists.value_sums,
+        };
+        sweep.close(sums, &mut lists.means, &mut lists.cell_qualities)
+    }
+
+    const RAY: Given = Given {
+        azimuths: &[0],
+        values: &[1, 7],
+        qualities: &[90, 10],
+    };
+
+    const BOTH: Given = Given {
+        azimuths: &[0, 0],
+        values: &[1, 7, 1, 7],
+        qualities: &[90, 10, 90, 10],
+    };
+
+    const EMPTY: Given = Given {
+        azimuths: &[],
+        values: &[],
+        qualities: &[],
+    };
+
+    /// A sweep of two rays with the first taken.
+    fn half() -> (Sweep, Lists) {
+        let mut lists = BEFORE;
+        let opened = open(TWO_RAYS, &mut lists).unwrap();
+        let sweep = take(opened, RAY, &mut lists).unwrap();
+        (sweep, lists)
+    }
+
+    #[test]
+    fn ray_by_ray_and_both_at_once() {
+        let (sweep, mut lists) = half();
+        assert_eq!((sweep.taken, sweep.closed), (1, OPEN));
+        assert_eq!(lists.ledger, [1, 1, 9, 9]);
+        assert_eq!(lists.means, [9; 2]);
+        let sweep = take(sweep, RAY, &mut lists).unwrap();
+        let closed = close(sweep, &mut lists).unwrap();
+        assert_eq!((closed.taken, closed.closed), (2, CLOSED));
+        assert_eq!(lists.ledger, [1; 4]);
+        assert_eq!((lists.counts, lists.quality_sums), ([0, 4], [0, 200]));
+        assert_eq!(lists.value_sums, [0, 320]);
+        assert_eq!((lists.means, lists.cell_qualities), ([NO_MEAN, 1], [0, 50]));
+        let mut at_once = BEFORE;
+        let opened = open(TWO_RAYS, &mut at_once).unwrap();
+        let sweep = take(opened, BOTH, &mut at_once).unwrap();
+        assert_eq!(close(sweep, &mut at_once), Ok(closed));
+        assert_eq!(at_once, lists);
+    }
+
+    /// The answers to taking the group and to closing, which have to leave the lists.
+    fn refused(sweep: Sweep, given: Given) -> [u32; 2] {
+        let mut lists = BEFORE;
+        let answers = [
+            take(sweep, given, &mut lists).unwrap_err(),
+            close(sweep, &mut lists).unwrap_err(),
+        ];
+        assert_eq!(lists, BEFORE);
+        answers
+    }
+
+    #[test]
+    fn refused_in_order() {
+        let (sweep, _) = half();
+        let bad = Given {
+            azimuths: &[3_600_000],
+            values: &[1, 7],
+            qualities: &[101, 10],
+        };
+        let wrong_head = Head {
+            gates: 0,
+            ..TWO_RAYS
+        };
+        let wrong = Sweep {
+            head: wrong_head,
+            ..sweep
+        };
+        let past = Sweep { taken: 3, ..wrong };
+        let closed = Sweep { closed: -5, ..past };
+        assert_eq!(refused(closed, bad), [19, 19]);
+        assert_eq!(refused(past, bad), [17, 17]);
+        assert_eq!(refused(wrong, bad), [2, 2]);
+        assert_eq!(refused(sweep, EMPTY), [6, 18]);
+        assert_eq!(refused(sweep, BOTH), [17, 18]);
+        assert_eq!(refused(sweep, bad), [7, 18]);
+        let bad_quality = Given {
+            azimuths: &[0],
+            ..bad
+        };
+        assert_eq!(refused(sweep, bad_quality), [8, 18]);
+    }
+
+    #[test]
+    fn no_ray_past_the_last() {
+        let (sweep, _) = half();
+        let full = Sweep { taken: 2, ..sweep };
+        let mut lists = BEFORE;
+        assert_eq!(take(full, RAY, &mut lists), Err(17));
+        assert_eq!(take(full, EMPTY, &mut lists), Err(6));
+        assert_eq!(lists, BEFORE);
+    }
+
+    /// Counts of rays that 32 bits do not hold are their limit.
+    #[test]
+    fn counts_of_every_size() {
+        let (sweep, _) = half();
+        for wrong in [-1, i64::MIN, i64::MAX, (1 << 32) + 1, MOST_COUNTED] {
+            let taken = Sweep {
+                taken: wrong,
+                ..sweep
+            };
+            assert_eq!(refused(taken, RAY), [17, 17]);
+            let head = Head {
+                rays: wrong,
+                ..TWO_RAYS
+            };
+            assert_eq!(refused(Sweep { head, ..sweep }, RAY), [1, 1]);
+            let both = Sweep { head, ..taken };
+            assert_eq!(refused(both, EMPTY), [1, 1]);
+            assert_eq!(refused(both, RAY), [17, 1]);
+        }
+    }
+
+    /// The answer to a further ray, whose gates add 2, 100 and 160 to cell 1, with one of its sums altered; a refusal leaves the lists.
+    fn take_with(alter: impl Fn(&mut Lists)) -> Result<i64, u32> {
+        let (sweep, mut lists) = half();
+        alter(&mut lists);
+        let before = lists.clone();
+        let answer = take(sweep, RAY, &mut lists).map(|sweep| sweep.taken);
+        if answer.is_err() {
+            assert_eq!(lists, before);
+        }
+        answer
+    }
+
+    #[test]
+    fn widths() {
+        assert_eq!(take_with(|lists| lists.counts[1] = u32::MAX - 2), Ok(2));
+        assert_eq!(take_with(|lists| lists.counts[1] = u32::MAX - 1), Err(31));
+        let most = u32::MAX - 100;
+        assert_eq!(take_with(|lists| lists.quality_sums[1] = most), Ok(2));
+        assert_eq!(take_with(|lists| lists.quality_sums[1] = most + 1), Err(31));
+        let most = u64::MAX - 160;
+        assert_eq!(take_with(|lists| lists.value_sums[1] = most), Ok(2));
+        assert_eq!(take_with(|lists| lists.value_sums[1] = most + 1), Err(31));
+        let other_cell = |lists: &mut Lists| {
+            lists.counts[0] = u32::MAX;
+            lists.quality_sums[0] = u32::MAX;
+            lists.value_sums[0] = u64::MAX;
+        };
+        assert_eq!(take_with(other_cell), Ok(2));
+    }
+
+    /// Mean and quality of cell 1, whose divisor is the quality sum, from altered sums.
+    fn published(count: u32, quality_sum: u32, value_sum: u64) -> (u16, u8) {
+        let (sweep, mut lists) = half();
+        lists.counts[1] = count;
+        lists.quality_sums[1] = quality_sum;
+        lists.value_sums[1] = value_sum;
+        close(Sweep { taken: 2, ..sweep }, &mut lists).unwrap();
+        (lists.means[1], lists.cell_qualities[1])
+    }
+
+    #[test]
+    fn altered_sums_published() {
+        assert_eq!(published(1, 100, 6_553_399), (65_533, 100));
+        assert_eq!(published(1, 100, 6_553_400), (NO_MEAN, 100));
+        assert_eq!(published(2, 201, 0), (0, 100));
+        assert_eq!(published(2, 202, 0), (0, 100));
+        assert_eq!(published(1, u32::MAX, u64::MAX), (NO_MEAN, 100));
+        assert_eq!(published(0, 1, 1), (1, 0));
+        assert_eq!(published(1, 0, 1), (NO_MEAN, 0));
+    }
+
+    #[test]
+    fn numbers_in_plain_form() {
+        let odd = Head {
+            grid: Grid {
+                side: -7,
+                ..EXAMPLE.grid
+            },
+            weighting: 1 << 40,
+            ..TWO_RAYS
+        };
+        let mut lists = BEFORE;
+        let opened = open(odd, &mut lists).unwrap();
+        assert_eq!(opened.head, TWO_RAYS);
+        let altered = Sweep {
+            head: odd,
+            ..opened
+        };
+        let taken = take(altered, BOTH, &mut lists).unwrap();
+        assert_eq!(taken.head, TWO_RAYS);
+        let altered = Sweep { head: odd, ..taken };
+        assert_eq!(close(altered, &mut lists).unwrap().head, TWO_RAYS);
+    }
+}
