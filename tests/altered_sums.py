@@ -1,4 +1,4 @@
-"""Sums that a caller has altered: at both sides of each width before a group is taken, and of each limit of a cell before closing."""
+"""Sums that a caller has altered: at both sides of each width before a group is taken, of each limit of a cell before closing."""
 from itertools import product
 from typing import NamedTuple
 

@@ -63,7 +63,7 @@ def case_lines(compiled, case):
 
 
 def cases_compared(compiled, cases):
-    """The differences, how many cases have each number, and what was met: numbers in a stage, and sets of numbers that applied."""
+    """The differences, how many cases have each number, and what was met: numbers in a stage, sets of numbers that applied."""
     lines, numbers, met = [], Counter(), set()
     for case in cases:
         lines += case_lines(compiled, case)

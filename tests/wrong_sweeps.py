@@ -1,4 +1,4 @@
-"""Operations of a sweep in every stage, with something changed: numbers of the state, lengths and contents, alone and together."""
+"""Operations of a sweep in every stage, with something changed: numbers of the state, lengths, contents, alone and together."""
 from itertools import combinations, product
 from typing import NamedTuple
 
@@ -181,7 +181,7 @@ def length_changes(operation):
         yield Change(6, lengths={"values": 1, "qualities": -1})
         yield Change(6, lengths={"values": 5, "qualities": 5})
         yield Change(6, lengths={"azimuths": 2**16})
-        # A ledger of the rays that are taken, and of those that are still to come.
+        # A ledger of the group alone, and one of the rays still to come.
         yield Change(6, lengths={"ledger": -20})
         yield Change(6, lengths={"ledger": -10})
 

@@ -1,8 +1,8 @@
-"""T-01's sweep, a scan that is fed ray by ray: opening, taking rays and closing, the refusals of each, the state and the lists afterwards.
+"""T-01's sweep, a scan that is fed ray by ray: opening, taking rays and closing.
 
 It is written from T-01 and document 01 alone and shares nothing with the library.
-The state is handed over and handed back by value. Each operation answers with the new state and the lists that it has written, or
-with the refusal number.
+The state is handed over and handed back by value. Each operation answers with the new state and the lists that it has
+written, or with the refusal number.
 """
 from typing import Any, NamedTuple
 

@@ -1,41 +1,37 @@
 -- What each step of an accepted scan needs, and that the steps' lists are document 01's. Assumes nothing.
-use mathlib.Core.Bool.{true, _&&_}
 use mathlib.Core.List.{List}
 use mathlib.Core.Path.{_≡_, refl, sym, ap, _∙_}
-use Prim.Native.Nat.{ℕ, _+_, _*_, _-_, _<_, _≤_}
-use native.Mathlib.Nat.{mul-le-mul, mul-le-mul-right}
+use Prim.Native.Nat.{ℕ, _+_, _*_, _<_, _≤_}
+use native.Mathlib.Nat.{mul-le-mul}
 use native.Mathlib.Omega.{arith}
-use borrow.Author.Tests.{leb-true, le-leb}
-use lib.Dec.{leb}
+use denote.Triple.Both.{Both}
+use borrow.Author.Tests.{leb-true}
 use lib.ListN.{length, getD, length-replicate}
 use lib.Seq.{sets}
-use Rattle.arithmetic.proofs.Places.{table-length, table-at, table-ext, all-at}
+use Rattle.arithmetic.proofs.Places.{table-length, all-at}
 use Rattle.arithmetic.proofs.SetsLaws.{sets-whole}
-use Rattle.arithmetic.proofs.Test.{and-true}
-use Rattle.placement.specs.Gate.{placementOf, unlessRefused, entryOf}
-use Rattle.projection.specs.Position.{positionOf}
-use Rattle.refusal.specs.Checks.{inRange, firstRefusal}
-use Rattle.limits.specs.Accepted.{rangeAccepted, azimuthAccepted, siteAccepted, gridAccepted}
-use Rattle.placement.specs.GateRefusal.{gateRefusal}
-use Rattle.placement.specs.Survey.{Surveyed, surveyOf, surveyed, surveyedEntry}
+use Rattle.placement.specs.Survey.{Surveyed, surveyOf}
 use Rattle.placement.proofs.SurveyLimits.{surveyed-of}
-use Rattle.scan.specs.declared.head.ScanHead.{ScanHead}
+use Rattle.tally.specs.LentSums.{Sums}
+use Rattle.tally.specs.Tally.{talliedSums, cleared, addedSums}
+use Rattle.tally.specs.TallyRoom.{Addable, AddsGates}
+use Rattle.tally.specs.Width.{fitWidths}
+use Rattle.tally.proofs.AllAdded.{all-added}
+use Rattle.tally.proofs.TallyWidth.{GatesMost, from-nothing-fits}
+use Rattle.tally.proofs.TallyFromNothing.{from-nothing}
 use Rattle.publish.specs.Publish.{publishedCells}
+use Rattle.publish.specs.PublishRoom.{Publishable}
 use Rattle.scan.specs.Rays.{regularRays}
 use Rattle.scan.specs.LentLists.{Lists}
-use Rattle.tally.specs.LentSums.{Sums}
 use Rattle.scan.specs.Scan.{Scan, raysOf, gatesOf, cellsOf}
-use Rattle.accepted_remap.specs.FilledLists.{ledgerOf, filledLists}
-use Rattle.scan.specs.ScanRefusal.{centresAccepted, qualityAccepted}
-use Rattle.scan_ledger.specs.LedgerRoom.{RaysSpan, surveyedLedger}
-use Rattle.tally.specs.Tally.{talliedSums, cleared, addedSums}
-use Rattle.tally.specs.TallyRoom.{Addable}
-use Rattle.publish.specs.PublishRoom.{Publishable}
+use Rattle.scan.specs.ScanRefusal.{qualityAccepted}
 use Rattle.scan.proofs.AcceptedScan.{AcceptedScan}
-use Rattle.scan.proofs.RayLaws.{gates-length, gates-same, regular-gates}
-use Rattle.tally.proofs.TallyWidth.{GatesMost, count-fits, quality-sum-fits, value-sum-fits}
-use Rattle.tally.proofs.TallyFromNothing.{zeros-at, from-nothing}
-use Rattle.publish.proofs.PublishedRange.{mean-published, quality-published}
+use Rattle.scan.proofs.RayLaws.{gates-length, regular-gates}
+use Rattle.scan_ledger.specs.LedgerRoom.{RaysSpan, surveyedLedger}
+use Rattle.scan_ledger.specs.ScanLedger.{ledgerOf}
+use Rattle.scan_ledger.proofs.AcceptedLedger.{centres-most, accepted-ledger}
+use Rattle.accepted_remap.specs.FilledLists.{filledLists}
+use Rattle.accepted_remap.proofs.FilledCells.{published-are}
 
 module _ {scan : Scan} {lists : Lists} (good : AcceptedScan scan lists) where
   pub is-surveyed : Surveyed (surveyOf (scan .head .site) (scan .head .grid))
@@ -108,19 +104,5 @@ module _ {scan : Scan} {lists : Lists} (good : AcceptedScan scan lists) where
           cell-qualities-length = good .lengths .cell-qualities-length ∙ m;
         })
 
-    means-are : ((k : ℕ) → getD (scan .values) k 0 ≤ 65535) → publishedCells (scan .head .weighting) sums (length (lists .cells .means)) .means ≡ filledLists scan .cells .means
-    unfolding filledLists talliedSums publishedCells
-    means-are small =
-        let n = cellsOf (scan .head) in
-        rw (sums-written, good .lengths .means-length) (table-ext _ _ n (λ c h.
-        rw (table-at _ n c h, table-at _ n c h, table-at _ n c h) (mean-published _ (scan .values) (scan .qualities) c (scan .head .weighting) small)))
-
-    qualities-are : publishedCells (scan .head .weighting) sums (length (lists .cells .means)) .qualities ≡ filledLists scan .cells .qualities
-    unfolding filledLists talliedSums publishedCells
-    qualities-are =
-        let n = cellsOf (scan .head) in
-        rw (sums-written, good .lengths .means-length) (table-ext _ _ n (λ c h.
-        rw (table-at _ n c h, table-at _ n c h) (quality-published _ (scan .values) (scan .qualities) c qualities-most)))
-
     pub cells-are : ((k : ℕ) → getD (scan .values) k 0 ≤ 65535) → publishedCells (scan .head .weighting) sums (length (lists .cells .means)) ≡ filledLists scan .cells
-    cells-are small i = record { means = means-are small i; qualities = qualities-are i }
+    cells-are small = rw (sums-written, good .lengths .means-length) (published-are scan small qualities-most)

@@ -1,1 +1,2 @@
+pub mod FilledCells
 pub mod AcceptedRemap

@@ -2,8 +2,8 @@
 use publish::publish;
 use scan::ScanHead;
 use scan_ledger::scan_ledger;
+use tally::add_gates;
 use tally::clear_sums;
-use tally::tally;
 ghost use mathlib.Core.Path.{_≡_};
 ghost use Rattle.scan.specs.LentLists.{listsHeld, lentLists};
 ghost use Rattle.scan.specs.Scan.{scanHeld};
@@ -40,7 +40,7 @@ pub fn accepted_remap(
         0,
     );
     clear_sums(counts, quality_sums, value_sums);
-    tally(
+    add_gates(
         weighting,
         ledger,
         values,

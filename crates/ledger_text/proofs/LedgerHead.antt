@@ -13,7 +13,7 @@ use Rattle.grid.specs.Window.{windowOf}
 use Rattle.refusal.proofs.RangeBounds.{range-bounds}
 use Rattle.scan.specs.declared.head.ScanHead.{ScanHead}
 use Rattle.scan.specs.Scan.{gatesOf}
-use Rattle.accepted_remap.proofs.AcceptedRemap.{centres-most}
+use Rattle.scan_ledger.proofs.AcceptedLedger.{centres-most}
 use Rattle.record_layout.specs.RecordPlaces.{headIn, azimuthsIn, valuesIn, qualitiesIn}
 use Rattle.record_layout.specs.RecordRefusal.{headRefusal}
 use Rattle.record_layout.proofs.AcceptedRecord.{record-numbers}

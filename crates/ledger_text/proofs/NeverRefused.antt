@@ -19,7 +19,7 @@ use Rattle.grid.specs.Sphere.{sphereOf}
 use Rattle.grid.specs.Window.{windowOf}
 use Rattle.placement.specs.Located.{inWindow, located}
 use Rattle.refusal.proofs.RangeBounds.{range-bounds}
-use Rattle.accepted_remap.proofs.AcceptedRemap.{gate-accepted}
+use Rattle.scan_ledger.proofs.AcceptedLedger.{gate-accepted}
 use Rattle.record_layout.specs.RecordPlaces.{headIn, azimuthsIn}
 use Rattle.record_layout.specs.RecordRefusal.{headRefusal}
 use Rattle.record_layout.proofs.AcceptedRecord.{record-numbers}
@@ -48,7 +48,7 @@ module _ (bytes : List ℕ) (good : headRefusal bytes ≡ 0) (k : ℕ) where
   unfolding headRefusal rayOf gateOf azimuthOf rangeOf
   none-refused =
       let numbers = record-numbers bytes true good in
-      gate-accepted (headIn bytes) _ (gateOf bytes k) (numbers .centres-accepted) (numbers .site-accepted) (numbers .grid-accepted)
+      gate-accepted (headIn bytes) (numbers .centres-accepted) (numbers .site-accepted) (numbers .grid-accepted) _ (gateOf bytes k)
       (all-at azimuthAccepted (azimuthsIn bytes) azimuth-zero (numbers .azimuths-accepted) (rayOf bytes k))
       (mod-lt k (range-bounds 1 1000 (headIn bytes .gates) (numbers .gates-accepted) .0))
 

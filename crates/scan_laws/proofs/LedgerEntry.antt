@@ -4,7 +4,8 @@ use mathlib.Core.Path.{_≡_}
 use Prim.Native.Nat.{ℕ, _+_, _*_, _<_}
 use lib.ListN.{length, getD}
 use Rattle.placement.specs.Gate.{placementOf, entryOf}
-use Rattle.accepted_remap.specs.FilledLists.{ledgerOf, filledLists}
+use Rattle.scan_ledger.specs.ScanLedger.{ledgerOf}
+use Rattle.accepted_remap.specs.FilledLists.{filledLists}
 use Rattle.scan.specs.Scan.{Scan, raysOf}
 use Rattle.scan.proofs.RayLaws.{gate-at}
 

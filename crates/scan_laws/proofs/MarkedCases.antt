@@ -27,7 +27,8 @@ use Rattle.scan_laws.specs.MarkedCases.{exampleHead, example, exampleSca
 use Rattle.publish.specs.Publish.{meanOf, divisorOf, qualityOf}
 use Rattle.scan.specs.Rays.{rayGates, allGates, regularRays}
 use Rattle.scan.specs.Scan.{raysOf, cellsOf}
-use Rattle.accepted_remap.specs.FilledLists.{ledgerOf, filledLists}
+use Rattle.scan_ledger.specs.ScanLedger.{ledgerOf}
+use Rattle.accepted_remap.specs.FilledLists.{filledLists}
 use Rattle.refusal.specs.Answer.{afterwards}
 use Rattle.scan.specs.ScanRefusal.{centresAccepted, qualityAccepted, scanNumber, scanRefusal, refusalFor}
 use Rattle.tally.specs.Tally.{contributes, sumOver, countOf, qualitySumOf, valueSumOf, talliedSums}

@@ -21,7 +21,8 @@ use Rattle.placement.specs.Located.{inWindow, located, row, column}
 use Rattle.grid.proofs.Cells.{in-span-natural}
 use Rattle.tally.specs.Gates.{isMeasured}
 use Rattle.scan_laws.specs.Placed.{isInside, gatePlacement, gateValue, isPlaced, placedOf}
-use Rattle.accepted_remap.specs.FilledLists.{ledgerOf, filledLists}
+use Rattle.scan_ledger.specs.ScanLedger.{ledgerOf}
+use Rattle.accepted_remap.specs.FilledLists.{filledLists}
 use Rattle.scan.specs.Scan.{cellsOf, Scan, raysOf}
 use Rattle.tally.specs.Tally.{countOf, talliedSums}
 use Rattle.tally.proofs.CountTotal.{count-total}

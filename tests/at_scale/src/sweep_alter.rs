@@ -48,6 +48,20 @@ fn alter_number(draw: &mut Draw, sweep: &Sweep) -> Step {
     Step::AlterState(name, number)
 }
 
+/// Rays and taken together, often alike, so that 17 does not come before the others; also about the limit at which far numbers count.
+fn alter_counts(draw: &mut Draw, sweep: &Sweep) -> Vec<Step> {
+    let limit = i64::from(u32::MAX);
+    let (wrong, about) = (draw.wrong(RAYS), limit + draw.within(-2..=1));
+    let counts = [0, sweep.taken, 721, -1, limit, about, wrong];
+    let rays = draw.one_of(&counts);
+    let other = draw.one_of(&counts);
+    let taken = draw.one_of(&[rays, rays, rays.wrapping_sub(1), other]);
+    vec![
+        Step::AlterState("rays", rays),
+        Step::AlterState("taken", taken),
+    ]
+}
+
 /// One to three numbers altered, or two so that the lengths of the lists stay good.
 pub fn alter_state(draw: &mut Draw, sweep: &Sweep) -> Vec<Step> {
     let grid = sweep.head.grid;
@@ -56,15 +70,7 @@ pub fn alter_state(draw: &mut Draw, sweep: &Sweep) -> Vec<Step> {
             Step::AlterState("columns", grid.rows),
             Step::AlterState("rows", grid.columns),
         ],
-        1 => {
-            // As many rays as were taken, so that 17 is not given before the others; at times a number that 1 refuses.
-            let wrong = draw.wrong(RAYS);
-            let rays = draw.one_of(&[0, sweep.taken, 721, 4_294_967_295, wrong]);
-            vec![
-                Step::AlterState("rays", rays),
-                Step::AlterState("taken", rays),
-            ]
-        }
+        1 => alter_counts(draw, sweep),
         _ => (0..draw.within(1..=3))
             .map(|_| alter_number(draw, sweep))
             .collect(),

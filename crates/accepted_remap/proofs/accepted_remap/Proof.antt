@@ -7,7 +7,7 @@ use Rattle.tally.specs.LentSums.{Sums, Cells}
 use Rattle.scan.specs.LentLists.{Lists, listsHeld}
 use Rattle.accepted_remap.specs.FilledLists.{filledLists}
 use Rattle.scan.specs.Scan.{Scan, scanHeld}
-use Rattle.tally.specs.Tally.{cleared, addedSums}
+use Rattle.tally.specs.Tally.{cleared}
 use Rattle.scan.proofs.AcceptedScan.{AcceptedScan, accepted-scan}
 use Rattle.accepted_remap.proofs.AcceptedRemap.{is-surveyed, rays-span, ledger-is, addable, sums-are, publishable, cells-are}
 use borrow.Author.Needs.{needs}
@@ -25,11 +25,11 @@ at-survey c = c .before .before
 abbrev at-ledger : tie.After-clear-sums → tie.After-scan-ledger
 at-ledger c = c .before .before .before .before .before .before
 
-abbrev at-clear : tie.After-tally → tie.After-clear-sums
+abbrev at-clear : tie.After-add-gates → tie.After-clear-sums
 at-clear c = c .before .before .before .before .before .before .before .before .before .before .before
 
-abbrev at-tally : tie.After-publish → tie.After-tally
-at-tally c = c .before .before .before .before .before .before .before .before .before .before .before .before
+abbrev at-sums : tie.After-publish → tie.After-add-gates
+at-sums c = c .before .before .before .before .before .before .before .before .before .before .before .before
 
 abbrev start : tie.After-clear-sums → tie.Start
 start c = at-start (at-survey (at-ledger c))
@@ -54,8 +54,8 @@ value-most c k = omega (arith, c .before .before .before .before .before .before
 abbrev sums-cleared : tie.After-clear-sums → Sums
 sums-cleared c = let last = c .clear-sums .last in record { counts = last .0; qualitySums = last .1 .0; valueSums = last .1 .1 .0 }
 
-abbrev sums-added : tie.After-tally → Sums
-sums-added c = let last = c .tally .last .1 .1 .1 .1 in record { counts = last .0; qualitySums = last .1 .0; valueSums = last .1 .1 .0 }
+abbrev sums-added : tie.After-add-gates → Sums
+sums-added c = let last = c .add-gates .last .1 .1 .1 .1 in record { counts = last .0; qualitySums = last .1 .0; valueSums = last .1 .1 .0 }
 
 abbrev cells-published : tie.After-publish → Cells
 cells-published c = let last = c .publish .last .1 .1 .1 .1 in record { means = last .0; qualities = last .1 .0 }
@@ -66,16 +66,14 @@ ledger-written c = rw (at-survey c .survey-of .ensures) at (c .scan-ledger .ensu
 cleared-are : (c : tie.After-clear-sums) → sums-cleared c ≡ cleared (lists (start c) .sums)
 cleared-are c = c .clear-sums .ensures
 
-sums-written : (c : tie.After-tally) → sums-added c ≡ filledLists (scan (start (at-clear c))) .sums
+sums-written : (c : tie.After-add-gates) → sums-added c ≡ filledLists (scan (start (at-clear c))) .sums
 sums-written c =
-    let a = start (at-clear c) .args in
-    c .tally .ensures
-    ∙ ap (addedSums (a .head .weighting) _ (a .values .now) (a .qualities .now)) (cleared-are (at-clear c))
-    ∙ sums-are (good (start (at-clear c))) (ledger-written (at-ledger (at-clear c)))
+    let there = at-clear c in
+    sums-are (good (start there)) (ledger-written (at-ledger there)) (value-most (at-survey (at-ledger there))) (cleared-are there) (c .add-gates .ensures)
 
-cells-written : (c : tie.After-publish) → cells-published c ≡ filledLists (scan (start (at-clear (at-tally c)))) .cells
+cells-written : (c : tie.After-publish) → cells-published c ≡ filledLists (scan (start (at-clear (at-sums c)))) .cells
 cells-written c =
-    let t = at-tally c in
+    let t = at-sums c in
     c .publish .ensures ∙ cells-are (good (start (at-clear t))) (sums-written t) (value-most (at-survey (at-ledger (at-clear t))))
 
 survey-of-requires : tie.Need-survey-of-requires
@@ -89,11 +87,11 @@ scan-ledger-requires c κs =
 clear-sums-requires : tie.Need-clear-sums-requires
 clear-sums-requires c κs = search needs
 
-tally-requires : tie.Need-tally-requires
-tally-requires c κs =
+add-gates-requires : tie.Need-add-gates-requires
+add-gates-requires c κs =
     let cleared-there = c .before .before .before .before .before .before .before .before .before .before in
     let s = start cleared-there in
-    rw (cleared-are cleared-there) (addable (good s) (ledger-written (at-ledger cleared-there)) (value-most (at-survey (at-ledger cleared-there))))
+    rw (cleared-are cleared-there) (addable (good s) (ledger-written (at-ledger cleared-there)))
 
 publish-requires : tie.Need-publish-requires
 publish-requires c κs =
@@ -121,7 +119,7 @@ same-length-6 c = search needs
 returns : tie.Need-returns
 returns c =
     let p = c .before .before .before .before in
-    let t = at-tally p in
+    let t = at-sums p in
     λ i. record { ledger = ledger-written (at-ledger (at-clear t)) i; sums = sums-written t i; cells = cells-written p i }
 
 pub accepted-remap-spec : {M : Type 1} → statement M
@@ -131,7 +129,7 @@ accepted-remap-spec =
     survey-of-requires
     scan-ledger-requires
     clear-sums-requires
-    tally-requires
+    add-gates-requires
     publish-requires
     same-length
     same-length-2

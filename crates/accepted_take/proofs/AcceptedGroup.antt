@@ -1,0 +1,152 @@
+-- What is known of a group that is not refused, and what each step of taking it needs. Assumes nothing.
+use mathlib.Core.Bool.{Bool, true, false, _&&_, not, cond}
+use mathlib.Core.List.{List}
+use mathlib.Core.Path.{_≡_, refl, sym, ap, _∙_}
+use Prim.Native.Nat.{ℕ, _+_, _*_, _≤_, _<_}
+use native.Mathlib.Nat.{add-mul, mul-le-mul-right}
+use native.Mathlib.Omega.{arith}
+use denote.Triple.Both.{Both}
+use borrow.Author.Tests.{eqb-true, eqb-false, not-true}
+use lib.Dec.{eqb}
+use lib.ListN.{length}
+use lib.Seq.{sets}
+use Rattle.arithmetic.specs.Places.{allOf}
+use Rattle.arithmetic.proofs.Test.{and-true}
+use Rattle.refusal.proofs.RangeBounds.{range-bounds}
+use Rattle.refusal.proofs.Then.{then-none}
+use Rattle.limits.specs.Accepted.{azimuthAccepted, siteAccepted, gridAccepted}
+use Rattle.placement.specs.declared.survey.Survey.{Survey}
+use Rattle.placement.specs.Survey.{Surveyed, surveyOf}
+use Rattle.placement.proofs.SurveyLimits.{surveyed-of}
+use Rattle.tally.specs.LentSums.{Sums}
+use Rattle.tally.specs.Width.{fitWidths}
+use Rattle.tally.specs.Tally.{addedSums}
+use Rattle.scan.specs.declared.head.ScanHead.{ScanHead}
+use Rattle.scan.specs.Rays.{regularRays}
+use Rattle.scan.specs.Scan.{gatesOf, cellsOf}
+use Rattle.scan.specs.ScanRefusal.{centresAccepted, qualityAccepted}
+use Rattle.scan.proofs.AcceptedScan.{accepted-numbers}
+use Rattle.scan_ledger.specs.LedgerRoom.{RaysSpan, surveyedLedger}
+use Rattle.scan_ledger.proofs.AcceptedLedger.{centres-most, accepted-ledger}
+use Rattle.ray_sums.specs.RaySums.{AddsAll}
+use Rattle.group_sums.specs.GroupRoom.{GroupAddable}
+use Rattle.sweep_checks.specs.declared.lengths.SumLengths.{SumLengths}
+use Rattle.sweep_checks.specs.SweepLengths.{sumsAccepted, groupAccepted}
+use Rattle.sweep_checks.specs.SweepNumbers.{takeNumber}
+use Rattle.sweep_checks.proofs.PassedState.{passed-state}
+use Rattle.accepted_take.specs.RayGroup.{RayGroup, RayLists}
+use Rattle.accepted_take.specs.TakenLists.{groupLengths, sumLengths, groupLedger, takenLists, takeChecks, TakesGroup}
+
+-- ---- the lengths
+
+pub record AcceptedSums (head : ScanHead) (sums : Sums) : Type 0 where
+  pub counts-length : length (sums .counts) ≡ cellsOf head
+  pub quality-sums-length : length (sums .qualitySums) ≡ cellsOf head
+  pub value-sums-length : length (sums .valueSums) ≡ cellsOf head
+
+pub accepted-sums : (head : ScanHead) (sums : Sums) → sumsAccepted head (sumLengths sums) ≡ true → AcceptedSums head sums
+unfolding sumsAccepted
+accepted-sums head sums e =
+    let first = and-true _ _ e in
+    let second = and-true _ _ (first .1) in
+    record { counts-length = eqb-true _ _ (first .0); quality-sums-length = eqb-true _ _ (second .0); value-sums-length = eqb-true _ _ (second .1) }
+
+-- ---- a group that is not refused, with the lists that are lent for it
+
+pub record AcceptedGroup (head : ScanHead) (closed : Bool) (taken : ℕ) (group : RayGroup) (lists : RayLists) : Type 0 where
+  pub open-yet : closed ≡ false
+  pub rays-most : taken + length (group .azimuths) ≤ head .rays
+  pub rays-limit : head .rays ≤ 720
+  pub gates-least : 1 ≤ head .gates
+  pub gates-most : head .gates ≤ 1000
+  pub centres : centresAccepted (head .gates) (head .first) (head .spacing) ≡ true
+  pub site : siteAccepted (head .site) ≡ true
+  pub grid : gridAccepted (head .grid) ≡ true
+  pub some-ray : length (group .azimuths) ≡ 0 → ⊥
+  pub values-length : length (group .values) ≡ length (group .azimuths) * head .gates
+  pub qualities-length : length (group .qualities) ≡ length (group .azimuths) * head .gates
+  pub ledger-length : length (lists .ledger) ≡ gatesOf head
+  pub sums : AcceptedSums head (lists .sums)
+  pub azimuths-good : allOf azimuthAccepted (group .azimuths) ≡ true
+  pub qualities-good : allOf qualityAccepted (group .qualities) ≡ true
+
+pub accepted-group : (head : ScanHead) (closed : Bool) (taken : ℕ) (group : RayGroup) (lists : RayLists) → takeChecks head closed taken group lists ≡ 0 → AcceptedGroup head closed taken group lists
+unfolding takeChecks takeNumber groupAccepted
+accepted-group head closed taken group lists e =
+    let both = then-none _ _ e in
+    let state = passed-state head closed taken (length (group .azimuths)) (both .0) in
+    let numbers = accepted-numbers head _ _ _ (both .1) in
+    let gates = range-bounds 1 1000 (head .gates) (numbers .gates-accepted) in
+    let lengths = and-true (groupAccepted head (groupLengths group (lists .ledger))) _ (numbers .lengths-accepted) in
+    let first = and-true _ _ (lengths .0) in
+    let second = and-true _ _ (first .1) in
+    let third = and-true _ _ (second .1) in
+    record {
+      open-yet = state .open-yet;
+      rays-most = state .rays-most;
+      rays-limit = range-bounds 1 720 (head .rays) (numbers .rays-accepted) .1;
+      gates-least = gates .0;
+      gates-most = gates .1;
+      centres = numbers .centres-accepted;
+      site = numbers .site-accepted;
+      grid = numbers .grid-accepted;
+      some-ray = eqb-false (length (group .azimuths)) 0 (not-true _ (first .0));
+      values-length = eqb-true _ _ (second .0);
+      qualities-length = eqb-true _ _ (third .0);
+      ledger-length = eqb-true _ _ (third .1);
+      sums = accepted-sums head (lists .sums) (lengths .1);
+      azimuths-good = numbers .azimuths-accepted;
+      qualities-good = numbers .qualities-accepted;
+    }
+
+-- ---- what each step needs
+
+module _ {head : ScanHead} {closed : Bool} {taken : ℕ} {group : RayGroup} {lists : RayLists} (good : AcceptedGroup head closed taken group lists) where
+  pub is-surveyed : Surveyed (surveyOf (head .site) (head .grid))
+  is-surveyed = surveyed-of (head .site) (head .grid) (good .site) (good .grid)
+
+  pub addable : {entries : List ℕ} → length entries ≡ head .gates → GroupAddable (head .first) (head .spacing) entries (group .azimuths) (group .values) (group .qualities) (lists .sums)
+  addable {entries} e =
+      let gates : length (group .azimuths) * head .gates ≡ length (group .azimuths) * length entries = ap (λ (g : ℕ). length (group .azimuths) * g) (sym e) in
+      record {
+        gates-most = omega (arith, good .gates-most);
+        values-length = good .values-length ∙ gates;
+        qualities-length = good .qualities-length ∙ gates;
+        quality-sums-length = good .sums .quality-sums-length ∙ sym (good .sums .counts-length);
+        value-sums-length = good .sums .value-sums-length ∙ sym (good .sums .counts-length);
+        ranges = λ g h. centres-most (head .gates) (head .first) (head .spacing) g (good .centres) (omega arith);
+      }
+
+  -- the rays stand in the ledger behind those that were taken before
+  pub rays-span : {ledger : List ℕ} → length ledger ≡ length (lists .ledger) → RaysSpan (head .gates) (head .first) (head .spacing) (taken * head .gates) (group .azimuths) ledger
+  unfolding gatesOf
+  rays-span same = record {
+    gates-least = good .gates-least;
+    gates-most = good .gates-most;
+    end-most = omega (arith, same, good .ledger-length, add-mul taken (length (group .azimuths)) (head .gates), mul-le-mul-right (head .gates) (good .rays-most));
+    ranges = λ g h. centres-most (head .gates) (head .first) (head .spacing) g (good .centres) h;
+  }
+
+  pub ledger-is : (survey : Survey) (gates : ℕ) → survey ≡ surveyOf (head .site) (head .grid) → gates ≡ head .gates → surveyedLedger survey (head .first) (head .spacing) (regularRays gates (group .azimuths)) ≡ groupLedger head group
+  unfolding groupLedger
+  ledger-is survey gates s g = rw (s, g) (accepted-ledger head (good .centres) (good .site) (good .grid) (group .azimuths) (good .azimuths-good))
+
+  -- ---- the answer
+
+  module _ {written : List ℕ} {sums : Sums} {added : Bool} (is : written ≡ groupLedger head group) (adds : AddsAll (head .weighting) written (group .values) (group .qualities) (record { entry = lists .sums; exit = sums }) added) where
+    pub group-taken : {ledger : List ℕ} → added ≡ true → ledger ≡ sets (lists .ledger) (taken * head .gates) (groupLedger head group) → TakesGroup head taken group (record { entry = lists; exit = record { ledger = ledger; sums = sums } }) true
+    unfolding takenLists
+    group-taken was e =
+        let there = rw is at adds in
+        let all : sums ≡ addedSums (head .weighting) (groupLedger head group) (group .values) (group .qualities) (lists .sums) = rw was at (there .the-sums) in
+        record {
+          the-answer = sym was ∙ there .the-answer;
+          the-lists = λ i. record { ledger = e i; sums = all i };
+        }
+
+    pub group-left : added ≡ false → TakesGroup head taken group (record { entry = lists; exit = record { ledger = lists .ledger; sums = sums } }) false
+    unfolding takenLists
+    group-left was =
+        let there = rw is at adds in
+        let same : sums ≡ lists .sums = rw was at (there .the-sums) in
+        record { the-answer = sym was ∙ there .the-answer; the-lists = λ i. record { ledger = lists .ledger; sums = same i } }

@@ -1,0 +1,89 @@
+-- `accepted_take::accepted_take` meets its contract: the sums of all rays or none, then the ledger. Assumes nothing.
+use mathlib.Core.Path.{_≡_, refl, sym, ap, _∙_}
+use Prim.Native.Nat.{ℕ, _*_, _≤_}
+use native.Mathlib.Nat.{mul-le-mul}
+use native.Mathlib.Omega.{arith}
+use borrow.Author.Tests.{not-true, not-false}
+use lib.ListN.{length, take, replicate}
+use lib.Seq.{sets, length-take-le}
+use Rattle.arithmetic.proofs.Machine.{fits-unsigned}
+use Rattle.accepted_take.specs.RayGroup.{groupHeld, rayListsHeld}
+use Rattle.accepted_take.proofs.AcceptedGroup.{AcceptedGroup, accepted-group, is-surveyed, addable, rays-span, ledger-is, group-taken, group-left}
+use borrow.Author.Needs.{needs}
+use Rattle.accepted_take.proofs.accepted_take.Statement.{statement}
+use Rattle.accepted_take.proofs.accepted_take.Tie as tie
+
+-- the group that came in
+good : (s : tie.Start) → let a = s .args in AcceptedGroup (a .head) (a .closed) (a .taken) (groupHeld (a .azimuths) (a .values) (a .qualities)) (rayListsHeld (a .ledger) (a .counts) (a .quality-sums) (a .value-sums))
+good s = accepted-group _ _ _ _ _ (s .pre)
+
+cast-gates : tie.Need-cast-gates
+cast-gates c = search needs
+
+survey-of-requires : tie.Need-survey-of-requires
+survey-of-requires c κs = let g = good (c .before .before .before .before .before .before .before .before .before) in (g .site, g .grid)
+
+array-borrow-prefix-entries : tie.Need-array-borrow-prefix-entries
+array-borrow-prefix-entries c = omega (arith, good (c .before .before .before .before .before .before .before .before .before .before) .gates-most)
+
+slice-aggregate-add-rays : tie.Need-slice-aggregate-add-rays
+slice-aggregate-add-rays c = sym (length-take-le _ _ (array-borrow-prefix-entries (c .before)))
+
+add-rays-requires : tie.Need-add-rays-requires
+add-rays-requires c κs = (rw (c .before .before .before .before .survey-of .ensures) (is-surveyed (good (c .before .before .before .before .before .before .before .before .before .before .before .before .before .before))), addable (good (c .before .before .before .before .before .before .before .before .before .before .before .before .before .before)) (length-take-le _ _ (good (c .before .before .before .before .before .before .before .before .before .before .before .before .before .before) .gates-most)))
+
+same-length : tie.Need-same-length
+same-length c = search needs
+
+same-length-2 : tie.Need-same-length-2
+same-length-2 c = search needs
+
+same-length-3 : tie.Need-same-length-3
+same-length-3 c = search needs
+
+returns : tie.Need-returns
+returns c = let g = good (c .before .before .before .before .before .before .before .before .before .before .before .before .before .before .before .before .before .before .before .before .before .before .before) in group-left g (ledger-is g _ _ (c .before .before .before .before .before .before .before .before .before .before .before .before .before .survey-of .ensures) (length-take-le _ _ (g .gates-most))) (c .before .before .before .before .before .before .before .before .add-rays .ensures) (not-true _ (c .if1 .taken))
+
+mul-scan-ledger : tie.Need-mul-scan-ledger
+mul-scan-ledger c = let g = good (c .before .before .before .before .before .before .before .before .before .before .before .before .before .before .before .before .before .before .before .before .before .before .before .before) in fits-unsigned {m = 720 * 1000} (mul-le-mul {n₂ = 720} {m₂ = 1000} (omega (arith, g .rays-most, g .rays-limit)) (g .gates-most)) tt
+
+scan-ledger-requires : tie.Need-scan-ledger-requires
+scan-ledger-requires c κs = (rw (c .before .before .before .before .before .before .before .before .before .before .before .before .before .before .survey-of .ensures) (is-surveyed (good (c .before .before .before .before .before .before .before .before .before .before .before .before .before .before .before .before .before .before .before .before .before .before .before .before))), rays-span (good (c .before .before .before .before .before .before .before .before .before .before .before .before .before .before .before .before .before .before .before .before .before .before .before .before)) refl)
+
+same-length-4 : tie.Need-same-length-4
+same-length-4 c = search needs
+
+same-length-5 : tie.Need-same-length-5
+same-length-5 c = search needs
+
+same-length-6 : tie.Need-same-length-6
+same-length-6 c = search needs
+
+same-length-7 : tie.Need-same-length-7
+same-length-7 c = search needs
+
+returns-2 : tie.Need-returns-2
+returns-2 c = let g = good (c .before .before .before .before .before .before .before .before .before .before .before .before .before .before .before .before .before .before .before .before .before .before .before .before .before .before .before) in
+    let a = c .before .before .before .before .before .before .before .before .before .before .before .before .before .before .before .before .before .before .before .before .before .before .before .before .before .before .before .args in
+    group-taken g (ledger-is g _ _ (c .before .before .before .before .before .before .before .before .before .before .before .before .before .before .before .before .before .survey-of .ensures) (length-take-le _ _ (g .gates-most))) (c .before .before .before .before .before .before .before .before .before .before .before .before .add-rays .ensures) (not-false _ (c .before .before .before .before .if1 .left)) (c .before .before .scan-ledger .ensures ∙ ap (sets (a .ledger .now) (a .taken * a .head .gates)) (ledger-is g _ _ (c .before .before .before .before .before .before .before .before .before .before .before .before .before .before .before .before .before .survey-of .ensures) refl))
+
+pub accepted-take-spec : {M : Type 1} → statement M
+accepted-take-spec =
+    tie.close
+    (tie.spec
+    cast-gates
+    survey-of-requires
+    array-borrow-prefix-entries
+    slice-aggregate-add-rays
+    add-rays-requires
+    same-length
+    same-length-2
+    same-length-3
+    returns
+    mul-scan-ledger
+    scan-ledger-requires
+    same-length-4
+    same-length-5
+    same-length-6
+    same-length-7
+    returns-2)

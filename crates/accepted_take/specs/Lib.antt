@@ -1,0 +1,2 @@
+pub mod RayGroup
+pub mod TakenLists

@@ -1,0 +1,2 @@
+pub mod SweepLengths
+pub mod SweepNumbers
