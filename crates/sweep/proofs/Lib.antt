@@ -1,0 +1,2 @@
+pub mod TakenRays
+pub mod ClosedSweep
