@@ -1,0 +1,2 @@
+pub mod SweepStruct
+pub mod LentSweep
