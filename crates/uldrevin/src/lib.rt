@@ -1,6 +1,7 @@
 // What C, Rust and Python link: the proved functions under C names.
 pub mod gate;
 pub mod record;
+pub mod turning_scan;
 pub mod whole_scan;
 
 ghost use mathlib.Core.Path.{_≡_};
