@@ -1,4 +1,5 @@
 -- Document 01, "Ledger and cells" and demand 2: what holds of the lists that `remap` leaves of an accepted scan. Assumes nothing.
+use mathlib.Core.Bool.{true}
 use mathlib.Core.Path.{_≡_, ap, _∙_}
 use Prim.Native.Nat.{ℕ, _≤_, _<_}
 use native.Mathlib.Nat.{mul-le-mul}
@@ -10,20 +11,22 @@ use Rattle.arithmetic.proofs.Places.{table-at}
 use Rattle.refusal.proofs.AnswerLaws.{given-is, filled-is}
 use Rattle.remap.specs.declared.Remapped.the-variants.{Done}
 use Rattle.tally.specs.Gates.{echoOf}
+use Rattle.limits.specs.Accepted.{gridAccepted}
+use Rattle.scan.specs.declared.head.ScanHead.{ScanHead}
 use Rattle.scan.specs.LentLists.{Lists}
 use Rattle.scan_laws.specs.Placed.{placedOf}
 use Rattle.accepted_remap.specs.FilledLists.{filledLists}
 use Rattle.remap.specs.Remap.{remapAnswer, Remaps}
 use Rattle.scan.specs.Scan.{Scan, cellsOf}
 use Rattle.scan.specs.ScanRefusal.{refusalFor}
-use Rattle.scan.proofs.AcceptedScan.{AcceptedScan, accepted-scan, window-size}
+use Rattle.scan.proofs.AcceptedScan.{accepted-scan, window-size}
 use Rattle.publish.proofs.MeanBetween.{HasPart, cellMean, mean-between}
 use Rattle.scan_laws.proofs.PlacedTotal.{placed-total}
 
-cells-most : (scan : Scan) (lists : Lists) → AcceptedScan scan lists → cellsOf (scan .head) ≤ 4294967295
+pub cells-most : (head : ScanHead) → gridAccepted (head .grid) ≡ true → cellsOf head ≤ 4294967295
 unfolding cellsOf
-cells-most scan lists known =
-    let size = window-size (scan .head .grid) (known .grid) in
+cells-most head accepted =
+    let size = window-size (head .grid) accepted in
     omega (arith, mul-le-mul (size .columns-most) (size .rows-most))
 
 mean-at : (scan : Scan) (cell : ℕ) → cell < cellsOf (scan .head) → getD (filledLists scan .cells .means) cell 0 ≡ cellMean (filledLists scan .ledger) (scan .values) (scan .qualities) (scan .head .weighting) cell
@@ -43,7 +46,7 @@ module _ (scan : Scan) (lists : Both Lists Lists) (remapped : Remaps scan lists 
   remapped-count-total =
       let known = accepted-scan scan (lists .entry) not-refused in
       ap (λ (l : Lists). sumTo (λ cell. getD (l .sums .counts) cell 0) (length (l .sums .counts))) left
-      ∙ placed-total scan (known .lengths .azimuths-length) (cells-most scan (lists .entry) known)
+      ∙ placed-total scan (known .lengths .azimuths-length) (cells-most (scan .head) (known .grid))
 
   -- a mean that is not 65,535 lies between the least and greatest contributing values, those with quality 0 left out by quality
   pub remapped-mean-between : (cell : ℕ) → cell < cellsOf (scan .head) → let mean = getD (lists .exit .cells .means) cell 0 in (mean ≡ 65535 → ⊥) → (least greatest : ℕ) → ((k : ℕ) → HasPart (lists .exit .ledger) (scan .values) (scan .qualities) (scan .head .weighting) cell k → (least ≤ echoOf (getD (scan .values) k 0)) × (echoOf (getD (scan .values) k 0) ≤ greatest)) → (least ≤ mean) × (mean ≤ greatest)

@@ -1,0 +1,4 @@
+pub mod JoinedRays
+pub mod SweepInvariant
+pub mod NoWidthRefusal
+pub mod WholeSweep

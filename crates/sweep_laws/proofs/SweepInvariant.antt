@@ -1,0 +1,230 @@
+-- What holds after every call of a sequence, and that each call keeps it. Assumes nothing.
+use mathlib.Core.Bool.{Bool, true, false, cond}
+use mathlib.Core.List.{List, [], _∷_, _++_}
+use mathlib.Core.Path.{_≡_, refl, sym, ap, _∙_}
+use Prim.Native.Nat.{ℕ, _+_, _*_, _≤_}
+use native.Mathlib.Nat.{zero-add, mul-le-mul, le-antisymm}
+use native.Mathlib.Omega.{arith}
+use denote.Triple.Both.{Both}
+use borrow.Author.Tests.{leb-true}
+use lib.Dec.{leb}
+use lib.ListN.{length, getD, length-append}
+use lib.Seq.{sets}
+use Rattle.arithmetic.specs.Places.{allOf}
+use Rattle.arithmetic.proofs.Places.{all-at}
+use Rattle.arithmetic.proofs.SetsLaws.{sets-append}
+use Rattle.refusal.specs.Answer.{afterwards}
+use Rattle.refusal.proofs.AnswerLaws.{given-is, refused-is, kept, filled-is}
+use Rattle.refusal.proofs.Then.{then-none}
+use Rattle.limits.specs.Accepted.{azimuthAccepted}
+use Rattle.tally.specs.LentSums.{Sums, Cells}
+use Rattle.tally.specs.Tally.{cleared, addedSums}
+use Rattle.tally.specs.Width.{fitWidths}
+use Rattle.tally.proofs.TallySplit.{added-joined}
+use Rattle.tally.proofs.TallyWidth.{GatesMost, from-nothing-fits}
+use Rattle.tally.proofs.TallyFromNothing.{from-nothing}
+use Rattle.publish.specs.Publish.{publishedCells}
+use Rattle.scan.specs.declared.head.ScanHead.{ScanHead}
+use Rattle.scan.specs.LentLists.{Lists}
+use Rattle.scan.specs.Rays.{regularRays}
+use Rattle.scan.specs.Scan.{Scan, raysOf, cellsOf}
+use Rattle.scan.specs.ScanRefusal.{qualityAccepted}
+use Rattle.scan_ledger.specs.ScanLedger.{ledgerOf}
+use Rattle.accepted_remap.specs.FilledLists.{filledLists}
+use Rattle.accepted_remap.proofs.FilledCells.{published-are}
+use Rattle.accepted_take.specs.RayGroup.{RayGroup, RayLists}
+use Rattle.accepted_take.specs.TakenLists.{groupLedger, takenLists, takeChecks, takeRefusal}
+use Rattle.accepted_take.proofs.AcceptedGroup.{AcceptedSums, AcceptedGroup, accepted-group}
+use Rattle.sweep.specs.declared.Sweep.{Sweep}
+use Rattle.sweep.specs.declared.Swept.{Swept}
+use Rattle.sweep.specs.declared.Swept.the-variants.{State, Refused}
+use Rattle.sweep.specs.SweepOperations.{sweptAnswer, raysRefusal, counted, Takes, closeRefusal, ended, Closes}
+use Rattle.sweep.proofs.ClosedSweep.{AcceptedClose, accepted-close}
+use Rattle.sweep_laws.specs.SweepSequence.{Held, Call, takes, closes, latest, handedOn, Sixteen, IsCall, joined, acceptedWith, wholeScan}
+use Rattle.sweep_laws.proofs.JoinedRays.{all-joined, lengths-joined, ledger-joined, ledger-length}
+
+-- the ledger of the accepted rays
+abbrev pub ledgerSoFar : ScanHead → RayGroup → List ℕ
+ledgerSoFar head rays = ledgerOf head (regularRays (head .gates) (rays .azimuths))
+
+-- what is known of the accepted rays
+pub record GoodRays (head : ScanHead) (rays : RayGroup) : Type 0 where
+  pub rays-most : length (rays .azimuths) ≤ 720
+  pub gates-most : head .gates ≤ 1000
+  pub values-length : length (rays .values) ≡ length (rays .azimuths) * head .gates
+  pub qualities-length : length (rays .qualities) ≡ length (rays .azimuths) * head .gates
+  pub azimuths-good : allOf azimuthAccepted (rays .azimuths) ≡ true
+  pub qualities-good : allOf qualityAccepted (rays .qualities) ≡ true
+  pub values-good : Sixteen (rays .values)
+
+module _ {head : ScanHead} {rays : RayGroup} (good : GoodRays head rays) where
+  pub values-most : (k : ℕ) → getD (rays .values) k 0 ≤ 65535
+  unfolding Sixteen
+  values-most k = leb-true _ _ (all-at (λ value. leb value 65535) (rays .values) refl (good .values-good) k)
+
+  pub qualities-most : (k : ℕ) → getD (rays .qualities) k 0 ≤ 100
+  unfolding qualityAccepted
+  qualities-most k = leb-true _ _ (all-at qualityAccepted (rays .qualities) refl (good .qualities-good) k)
+
+  -- from nothing, no count or sum passes its width
+  pub rays-fit : (sums : Sums) → fitWidths (addedSums (head .weighting) (ledgerSoFar head rays) (rays .values) (rays .qualities) (cleared sums)) ≡ true
+  rays-fit sums =
+      let gates = mul-le-mul (good .rays-most) (good .gates-most) in
+      let most : GatesMost (ledgerSoFar head rays) (rays .values) (rays .qualities) = record {
+        gates-most = omega (arith, ledger-length head (head .gates) (rays .azimuths), gates);
+        values-most = values-most;
+        qualities-most = qualities-most;
+      } in
+      from-nothing-fits most (head .weighting) sums
+
+  -- another group behind them
+  module _ {closed : Bool} {taken : ℕ} {group : RayGroup} {lists : RayLists} (next : AcceptedGroup head closed taken group lists) (so-many : taken ≡ length (rays .azimuths)) where
+    pub good-joined : Sixteen (group .values) → GoodRays head (joined rays group)
+    unfolding joined Sixteen
+    good-joined sixteen = record {
+      rays-most = omega (arith, length-append (rays .azimuths) (group .azimuths), next .rays-most, next .rays-limit);
+      gates-most = good .gates-most;
+      values-length = lengths-joined (head .gates) (rays .azimuths) (group .azimuths) (rays .values) (group .values) (good .values-length) (next .values-length);
+      qualities-length = lengths-joined (head .gates) (rays .azimuths) (group .azimuths) (rays .qualities) (group .qualities) (good .qualities-length) (next .qualities-length);
+      azimuths-good = all-joined azimuthAccepted (rays .azimuths) (group .azimuths) (good .azimuths-good) (next .azimuths-good);
+      qualities-good = all-joined qualityAccepted (rays .qualities) (group .qualities) (good .qualities-good) (next .qualities-good);
+      values-good = all-joined (λ value. leb value 65535) (rays .values) (group .values) (good .values-good) sixteen;
+    }
+
+    pub ledger-behind : (lent : List ℕ) → sets (sets lent 0 (ledgerSoFar head rays)) (taken * head .gates) (groupLedger head group) ≡ sets lent 0 (ledgerSoFar head (joined rays group))
+    unfolding joined groupLedger
+    ledger-behind lent =
+        ap (λ (n : ℕ). sets (sets lent 0 (ledgerSoFar head rays)) n (groupLedger head group)) (ap (λ (n : ℕ). n * head .gates) so-many ∙ sym (ledger-length head (head .gates) (rays .azimuths)) ∙ sym (zero-add _))
+        ∙ sets-append lent 0 (ledgerSoFar head rays) (groupLedger head group)
+        ∙ ap (sets lent 0) (sym (ledger-joined head (head .gates) (rays .azimuths) (group .azimuths)))
+
+    pub sums-behind : (sums : Sums) → addedSums (head .weighting) (groupLedger head group) (group .values) (group .qualities) (addedSums (head .weighting) (ledgerSoFar head rays) (rays .values) (rays .qualities) sums) ≡ addedSums (head .weighting) (ledgerSoFar head (joined rays group)) (joined rays group .values) (joined rays group .qualities) sums
+    unfolding joined groupLedger
+    sums-behind sums =
+        let length-is = sym (ledger-length head (head .gates) (rays .azimuths)) in
+        sym (added-joined (ledgerSoFar head rays) (rays .values) (rays .qualities) (groupLedger head group) (group .values) (group .qualities) (good .values-length ∙ length-is) (good .qualities-length ∙ length-is) (head .weighting) sums)
+        ∙ sym (ap (λ (l : List ℕ). addedSums (head .weighting) l (rays .values ++ group .values) (rays .qualities ++ group .qualities) sums) (ledger-joined head (head .gates) (rays .azimuths) (group .azimuths)))
+
+not-both : {t : Bool} → t ≡ true → t ≡ false → ⊥
+not-both e f = let wrong : _≡_ {A = ℕ} 1 0 = ap (λ (b : Bool). cond b 1 0) (sym e ∙ f) in omega (arith, wrong)
+
+-- ---- what holds after every call
+
+pub record SoFar (head : ScanHead) (lent : Lists) (rays : RayGroup) (held : Held) : Type 0 where
+  pub rays-good : GoodRays head rays
+  pub sums-exact : AcceptedSums head (lent .sums)
+  pub same-head : held .sweep .head ≡ head
+  pub rays-counted : held .sweep .taken ≡ length (rays .azimuths)
+  pub all-when-closed : held .sweep .closed ≡ true → length (rays .azimuths) ≡ head .rays
+  pub the-ledger : held .lists .ledger ≡ sets (lent .ledger) 0 (ledgerSoFar head rays)
+  pub the-sums : held .lists .sums ≡ addedSums (head .weighting) (ledgerSoFar head rays) (rays .values) (rays .qualities) (cleared (lent .sums))
+  pub the-cells : held .lists .cells ≡ cond (held .sweep .closed) (filledLists (wholeScan head rays) .cells) (lent .cells)
+
+module _ {head : ScanHead} {lent : Lists} {rays : RayGroup} {held : Held} (so-far : SoFar head lent rays held) where
+  -- the lists that a group is lent
+  abbrev rayLists : RayLists
+  rayLists = record { ledger = held .lists .ledger; sums = held .lists .sums }
+
+  accepted : (group : RayGroup) → takeChecks (held .sweep .head) (held .sweep .closed) (held .sweep .taken) group rayLists ≡ 0 → AcceptedGroup head (held .sweep .closed) (held .sweep .taken) group rayLists
+  accepted group e = rw (so-far .same-head) at (accepted-group (held .sweep .head) (held .sweep .closed) (held .sweep .taken) group rayLists e)
+
+  -- the sums with a group behind the accepted rays
+  with-group : (group : RayGroup) → AcceptedGroup head (held .sweep .closed) (held .sweep .taken) group rayLists → takenLists (held .sweep .head) (held .sweep .taken) group rayLists .sums ≡ addedSums (head .weighting) (ledgerSoFar head (joined rays group)) (joined rays group .values) (joined rays group .qualities) (cleared (lent .sums))
+  unfolding takenLists
+  with-group group next =
+      rw (so-far .same-head)
+      (ap (addedSums (head .weighting) (groupLedger head group) (group .values) (group .qualities)) (so-far .the-sums)
+      ∙ sums-behind (so-far .rays-good) next (so-far .rays-counted) (cleared (lent .sums)))
+
+  -- a group that passes the other checks always fits: 31 is never given
+  pub always-fits : (group : RayGroup) → Sixteen (group .values) → takeChecks (held .sweep .head) (held .sweep .closed) (held .sweep .taken) group rayLists ≡ 0 → fitWidths (takenLists (held .sweep .head) (held .sweep .taken) group rayLists .sums) ≡ true
+  always-fits group sixteen e =
+      let next = accepted group e in
+      ap fitWidths (with-group group next) ∙ rays-fit (good-joined (so-far .rays-good) next (so-far .rays-counted) sixteen) (lent .sums)
+
+  -- ---- an accepted group
+
+  after-take : (group : RayGroup) → Sixteen (group .values) → takeChecks (held .sweep .head) (held .sweep .closed) (held .sweep .taken) group rayLists ≡ 0 → SoFar head lent (joined rays group) (handedOn held (takes group (State (counted (held .sweep) group)) (takenLists (held .sweep .head) (held .sweep .taken) group rayLists)))
+  unfolding handedOn latest counted takenLists joined
+  after-take group sixteen e =
+      let next = accepted group e in
+      record {
+        rays-good = good-joined (so-far .rays-good) next (so-far .rays-counted) sixteen;
+        sums-exact = so-far .sums-exact;
+        same-head = so-far .same-head;
+        rays-counted = omega (arith, so-far .rays-counted, length-append (rays .azimuths) (group .azimuths));
+        all-when-closed = λ was. absurd (not-both was (next .open-yet));
+        the-ledger =
+            rw (so-far .same-head)
+            (ap (λ (l : List ℕ). sets l (held .sweep .taken * head .gates) (groupLedger head group)) (so-far .the-ledger)
+            ∙ ledger-behind (so-far .rays-good) next (so-far .rays-counted) (lent .ledger));
+        the-sums = with-group group next;
+        the-cells = so-far .the-cells ∙ rw (next .open-yet);
+      }
+
+  -- ---- a refused call
+
+  after-refusal : (lists : Lists) → lists ≡ held .lists → SoFar head lent rays (record { sweep = held .sweep; lists = lists })
+  after-refusal lists same = rw same (record {
+    rays-good = so-far .rays-good;
+    sums-exact = so-far .sums-exact;
+    same-head = so-far .same-head;
+    rays-counted = so-far .rays-counted;
+    all-when-closed = so-far .all-when-closed;
+    the-ledger = so-far .the-ledger;
+    the-sums = so-far .the-sums;
+    the-cells = so-far .the-cells;
+  })
+
+  -- ---- an accepted closing
+
+  pub sums-are : held .lists .sums ≡ filledLists (wholeScan head rays) .sums
+  unfolding filledLists wholeScan raysOf cellsOf ledgerOf
+  sums-are =
+      so-far .the-sums
+      ∙ from-nothing (head .weighting) (ledgerSoFar head rays) (rays .values) (rays .qualities) (lent .sums) (so-far .sums-exact .counts-length) (so-far .sums-exact .quality-sums-length) (so-far .sums-exact .value-sums-length)
+
+  published : publishedCells (held .sweep .head .weighting) (held .lists .sums) (cellsOf (held .sweep .head)) ≡ filledLists (wholeScan head rays) .cells
+  unfolding wholeScan cellsOf
+  published =
+      rw (so-far .same-head)
+      (ap (λ (s : Sums). publishedCells (head .weighting) s (cellsOf head)) sums-are
+      ∙ published-are (wholeScan head rays) (values-most (so-far .rays-good)) (qualities-most (so-far .rays-good)))
+
+  after-close : closeRefusal (held .sweep) (held .lists .sums) (held .lists .cells) ≡ 0 → SoFar head lent rays (handedOn held (closes (State (ended (held .sweep))) (publishedCells (held .sweep .head .weighting) (held .lists .sums) (cellsOf (held .sweep .head)))))
+  unfolding handedOn latest ended closeRefusal
+  after-close e =
+      let known = accepted-close (held .sweep .head) (held .sweep .closed) (held .sweep .taken) (held .lists .sums) (held .lists .cells) e in
+      record {
+        rays-good = so-far .rays-good;
+        sums-exact = so-far .sums-exact;
+        same-head = so-far .same-head;
+        rays-counted = so-far .rays-counted;
+        all-when-closed = λ was. sym (so-far .rays-counted) ∙ le-antisymm (known .rays-most) (known .rays-least) ∙ ap (λ (h : ScanHead). h .rays) (so-far .same-head);
+        the-ledger = so-far .the-ledger;
+        the-sums = so-far .the-sums;
+        the-cells = published;
+      }
+
+  -- ---- every call
+
+  lists-left : {A : Type 0} (number : ℕ) (before after : A) {left : A} → (number ≡ 0 → ⊥) → left ≡ afterwards number before after → left ≡ before
+  lists-left number before after wrong e = e ∙ sym (kept number before after wrong)
+
+  pub after-call : (call : Call) → IsCall held call → SoFar head lent (acceptedWith rays call) (handedOn held call)
+  unfolding IsCall acceptedWith handedOn latest sweptAnswer raysRefusal takeRefusal
+  after-call (takes group (State sweep) lists) (contract, sixteen) =
+      let told = given-is (raysRefusal (held .sweep) group rayLists) (contract .the-answer) in
+      let none = then-none _ _ (told .0) .0 in
+      rw (told .1, filled-is rayLists (told .0) (contract .the-lists)) (after-take group sixteen none)
+  after-call (takes group (Refused number) lists) (contract, sixteen) =
+      let told = refused-is (raysRefusal (held .sweep) group rayLists) (counted (held .sweep) group) (contract .the-answer) in
+      let same = lists-left _ rayLists _ (told .1) (contract .the-lists) in
+      after-refusal (handedOn held (takes group (Refused number) lists) .lists) (λ i. record { ledger = same i .ledger; sums = same i .sums; cells = held .lists .cells })
+  after-call (closes (State sweep) cells) contract =
+      let told = given-is (closeRefusal (held .sweep) (held .lists .sums) (held .lists .cells)) (contract .the-answer) in
+      rw (told .1, filled-is (held .lists .cells) (told .0) (contract .the-cells)) (after-close (told .0))
+  after-call (closes (Refused number) cells) contract =
+      let told = refused-is (closeRefusal (held .sweep) (held .lists .sums) (held .lists .cells)) (ended (held .sweep)) (contract .the-answer) in
+      let same = lists-left _ (held .lists .cells) _ (told .1) (contract .the-cells) in
+      after-refusal (handedOn held (closes (Refused number) cells) .lists) (λ i. record { ledger = held .lists .ledger; sums = held .lists .sums; cells = same i })

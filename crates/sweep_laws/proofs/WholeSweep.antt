@@ -1,0 +1,135 @@
+-- Document 02, T-01, and demand 2 over a sweep: what holds after any sequence of calls from an accepted opening. Assumes nothing.
+use mathlib.Core.Bool.{Bool, true, false, cond}
+use mathlib.Core.List.{List, [], _∷_, flatMap}
+use mathlib.Core.Path.{_≡_, refl, sym, ap, _∙_}
+use Prim.Native.Nat.{ℕ, _≤_}
+use native.Mathlib.Nat.{zero-mul}
+use native.Mathlib.Omega.{arith}
+use denote.Triple.Both.{Both}
+use borrow.Author.Tests.{le-leb}
+use lib.ListN.{length, getD}
+use lib.Seq.{sets}
+use Rattle.arithmetic.specs.Places.{sumTo, allOf}
+use Rattle.refusal.specs.Checks.{inRange, firstRefusal}
+use Rattle.refusal.proofs.AnswerLaws.{given-is, filled-is}
+use Rattle.refusal.proofs.RangeBounds.{range-bounds}
+use Rattle.limits.specs.Accepted.{gridAccepted}
+use Rattle.tally.specs.LentSums.{Sums}
+use Rattle.tally.specs.Tally.{cleared, addedSums}
+use Rattle.tally.proofs.TallySplit.{added-none}
+use Rattle.scan.specs.declared.head.ScanHead.{ScanHead}
+use Rattle.scan.specs.LentLists.{Lists}
+use Rattle.scan.specs.Rays.{regularRays, allGates}
+use Rattle.scan.specs.Scan.{raysOf, cellsOf}
+use Rattle.scan.specs.ScanRefusal.{listsExact, scanNumber, scanRefusal, refusalFor}
+use Rattle.scan.proofs.AcceptedScan.{AcceptedNumbers, accepted-numbers}
+use Rattle.scan_ledger.specs.ScanLedger.{ledgerOf}
+use Rattle.accepted_remap.specs.FilledLists.{filledLists}
+use Rattle.remap.specs.declared.Remapped.{Remapped}
+use Rattle.remap.specs.Remap.{Remaps}
+use Rattle.scan_laws.specs.Placed.{placedOf}
+use Rattle.scan_laws.proofs.PlacedTotal.{placed-total}
+use Rattle.scan_laws.proofs.WholeScan.{cells-most}
+use Rattle.sweep_checks.specs.SweepLengths.{sumsAccepted}
+use Rattle.sweep_checks.specs.SweepNumbers.{openNumber}
+use Rattle.accepted_take.proofs.AcceptedGroup.{accepted-sums}
+use Rattle.accepted_take.specs.RayGroup.{RayGroup}
+use Rattle.accepted_take.specs.TakenLists.{sumLengths}
+use Rattle.sweep.specs.declared.Sweep.{Sweep}
+use Rattle.sweep.specs.declared.Swept.the-variants.{State}
+use Rattle.sweep.specs.SweepOperations.{sweptAnswer, openRefusal, opened, Opens}
+use Rattle.sweep_laws.specs.SweepSequence.{Held, heldFrom, Call, Sixteen, Sequence, heldAfter, noRays, acceptedRays, wholeScan, NotRefusedBy}
+use Rattle.sweep_laws.specs.WholeSweep.{WholeSweep, AsRemapped}
+use Rattle.sweep_laws.proofs.SweepInvariant.{SoFar, sums-are, after-call}
+use Rattle.sweep_laws.proofs.NoWidthRefusal.{call-other}
+
+-- ---- from what is kept by every call
+
+module _ {head : ScanHead} {lent : Lists} {rays : RayGroup} {held : Held} (accepted : gridAccepted (head .grid) ≡ true) (so-far : SoFar head lent rays held) where
+  ledger-is : held .lists .ledger ≡ sets (lent .ledger) 0 (filledLists (wholeScan head rays) .ledger)
+  unfolding filledLists wholeScan raysOf ledgerOf
+  ledger-is = so-far .the-ledger
+
+  total : sumTo (λ cell. getD (held .lists .sums .counts) cell 0) (length (held .lists .sums .counts)) ≡ placedOf (wholeScan head rays)
+  unfolding wholeScan cellsOf
+  total =
+      ap (λ (s : Sums). sumTo (λ cell. getD (s .counts) cell 0) (length (s .counts))) (sums-are so-far)
+      ∙ placed-total (wholeScan head rays) refl (cells-most head accepted)
+
+  whole : WholeSweep head lent rays held
+  whole = record {
+    same-head = so-far .same-head;
+    rays-counted = so-far .rays-counted;
+    all-when-closed = so-far .all-when-closed;
+    the-ledger = ledger-is;
+    the-sums = sums-are so-far;
+    the-cells = so-far .the-cells;
+    count-total = total;
+  }
+
+-- call after call
+after-calls : {head : ScanHead} {lent : Lists} {rays : RayGroup} {held : Held} (calls : List Call) → SoFar head lent rays held → Sequence held calls → SoFar head lent (acceptedRays rays calls) (heldAfter held calls) × NotRefusedBy 31 calls
+unfolding Sequence acceptedRays heldAfter NotRefusedBy
+after-calls [] so-far done = (so-far, tt)
+after-calls (call ∷ calls) so-far (this, others) =
+    let rest = after-calls calls (after-call so-far call this) others in
+    (rest .0, call-other so-far call this calls (rest .1))
+
+-- ---- from an accepted opening
+
+module _ (head : ScanHead) (lent : Lists) (sums : Sums) (sweep : Sweep) (opens : Opens head (record { entry = lent .sums; exit = sums }) (State sweep)) where
+  told : (openRefusal head (lent .sums) ≡ 0) × (sweep ≡ opened head)
+  unfolding sweptAnswer
+  told = given-is (openRefusal head (lent .sums)) (opens .the-answer)
+
+  numbers : AcceptedNumbers head (sumsAccepted head (sumLengths (lent .sums))) true true
+  unfolding openRefusal openNumber
+  numbers = accepted-numbers head _ _ _ (told .0)
+
+  at-first : SoFar head lent noRays (heldFrom (opened head) lent (cleared (lent .sums)))
+  unfolding heldFrom opened noRays addedSums ledgerOf allGates flatMap regularRays allOf Sixteen
+  at-first = record {
+    rays-good = record {
+      rays-most = omega arith;
+      gates-most = range-bounds 1 1000 (head .gates) (numbers .gates-accepted) .1;
+      values-length = sym (zero-mul (head .gates));
+      qualities-length = sym (zero-mul (head .gates));
+      azimuths-good = refl;
+      qualities-good = refl;
+      values-good = refl;
+    };
+    sums-exact = accepted-sums head (lent .sums) (numbers .lengths-accepted);
+    same-head = refl;
+    rays-counted = refl;
+    all-when-closed = λ was. let wrong : _≡_ {A = ℕ} 0 1 = ap (λ (b : Bool). cond b 1 0) was in absurd (omega (arith, wrong));
+    the-ledger = refl;
+    the-sums = sym (added-none (head .weighting) [] [] [] (cleared (lent .sums)));
+    the-cells = refl;
+  }
+
+  begun : SoFar head lent noRays (heldFrom sweep lent sums)
+  begun = rw (told .1, filled-is (lent .sums) (told .0) (opens .the-sums)) at-first
+
+  module _ (calls : List Call) (sequence : Sequence (heldFrom sweep lent sums) calls) where
+    -- "While the caller hands on the latest state and untouched lists, ledger, sums and cells equal those of the whole scan made of the accepted
+    -- rays, however these were divided; demand 2 reads over them."
+    pub whole-sweep : WholeSweep head lent (acceptedRays noRays calls) (heldAfter (heldFrom sweep lent sums) calls)
+    whole-sweep = whole (numbers .grid-accepted) (after-calls calls begun sequence .0)
+
+    -- and 31 is for altered sums alone
+    pub never-31 : NotRefusedBy 31 calls
+    never-31 = after-calls calls begun sequence .1
+
+    -- the whole scan made of the accepted rays is one that `remap` accepts, if there is a ray
+    pub whole-accepted : (length (acceptedRays noRays calls .azimuths) ≡ 0 → ⊥) → (lists : Lists) → listsExact (wholeScan head (acceptedRays noRays calls)) lists ≡ true → refusalFor (wholeScan head (acceptedRays noRays calls)) lists ≡ 0
+    unfolding wholeScan refusalFor scanRefusal scanNumber firstRefusal inRange
+    whole-accepted some lists exact =
+        let rays = acceptedRays noRays calls in
+        let good = after-calls calls begun sequence .0 .rays-good in
+        rw (le-leb 1 (length (rays .azimuths)) (omega arith), le-leb (length (rays .azimuths)) 720 (good .rays-most), numbers .gates-accepted, numbers .centres-accepted, numbers .site-accepted, numbers .grid-accepted, exact, good .azimuths-good, good .qualities-good)
+
+    -- so whatever `remap` is lent for that scan, of exact lengths, it leaves what the caller holds
+    pub as-remapped : (length (acceptedRays noRays calls .azimuths) ≡ 0 → ⊥) → (lists : Both Lists Lists) (answer : Remapped) → listsExact (wholeScan head (acceptedRays noRays calls)) (lists .entry) ≡ true → Remaps (wholeScan head (acceptedRays noRays calls)) lists answer → AsRemapped lent (heldAfter (heldFrom sweep lent sums) calls) (lists .exit)
+    as-remapped some lists answer exact remaps =
+        let same = filled-is (lists .entry) (whole-accepted some (lists .entry) exact) (remaps .the-lists) in
+        rw same (record { same-ledger = whole-sweep .the-ledger; same-sums = whole-sweep .the-sums; same-cells = whole-sweep .the-cells })

@@ -1,0 +1,2 @@
+pub mod SweepSequence
+pub mod WholeSweep

@@ -1,0 +1,1 @@
+// What holds of a whole sweep: see specs/ and proofs/.
