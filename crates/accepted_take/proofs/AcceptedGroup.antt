@@ -1,13 +1,11 @@
 -- What is known of a group that is not refused, and what each step of taking it needs. Assumes nothing.
-use mathlib.Core.Bool.{Bool, true, false, _&&_, not, cond}
+use mathlib.Core.Bool.{Bool, true, false}
 use mathlib.Core.List.{List}
-use mathlib.Core.Path.{_≡_, refl, sym, ap, _∙_}
-use Prim.Native.Nat.{ℕ, _+_, _*_, _≤_, _<_}
+use mathlib.Core.Path.{_≡_, sym, ap, _∙_}
+use Prim.Native.Nat.{ℕ, _+_, _*_, _≤_}
 use native.Mathlib.Nat.{add-mul, mul-le-mul-right}
 use native.Mathlib.Omega.{arith}
-use denote.Triple.Both.{Both}
 use borrow.Author.Tests.{eqb-true, eqb-false, not-true}
-use lib.Dec.{eqb}
 use lib.ListN.{length}
 use lib.Seq.{sets}
 use Rattle.arithmetic.specs.Places.{allOf}
@@ -19,7 +17,6 @@ use Rattle.placement.specs.declared.survey.Survey.{Survey}
 use Rattle.placement.specs.Survey.{Surveyed, surveyOf}
 use Rattle.placement.proofs.SurveyLimits.{surveyed-of}
 use Rattle.tally.specs.LentSums.{Sums}
-use Rattle.tally.specs.Width.{fitWidths}
 use Rattle.tally.specs.Tally.{addedSums}
 use Rattle.scan.specs.declared.head.ScanHead.{ScanHead}
 use Rattle.scan.specs.Rays.{regularRays}
@@ -30,7 +27,6 @@ use Rattle.scan_ledger.specs.LedgerRoom.{RaysSpan, surveyedLedger}
 use Rattle.scan_ledger.proofs.AcceptedLedger.{centres-most, accepted-ledger}
 use Rattle.ray_sums.specs.RaySums.{AddsAll}
 use Rattle.group_sums.specs.GroupRoom.{GroupAddable}
-use Rattle.sweep_checks.specs.declared.lengths.SumLengths.{SumLengths}
 use Rattle.sweep_checks.specs.SweepLengths.{sumsAccepted, groupAccepted}
 use Rattle.sweep_checks.specs.SweepNumbers.{takeNumber}
 use Rattle.sweep_checks.proofs.PassedState.{passed-state}

@@ -3,8 +3,6 @@ use mathlib.Core.List.{List}
 use denote.Ref.{now}
 use denote.Triple.Both.{Both}
 use lib.IntN.{ℤ}
-use Rattle.tally.specs.LentSums.{Sums, Cells, Lent, lentSums, lentCells}
-use Rattle.accepted_take.specs.RayGroup.{RayLists, lentRayLists}
 use Rattle.c_answers.specs.LentNumbers.{LentStruct}
 
 -- the state's numbers and lists of some kind

@@ -15,7 +15,6 @@ use Rattle.placement.specs.Survey.{surveyedEntry, surveyedRay}
 use Rattle.tally.specs.declared.gates.Weighting.{Weighting}
 use Rattle.tally.specs.LentSums.{Sums}
 use Rattle.tally.specs.Tally.{addedFirst, addedSums}
-use Rattle.tally.specs.TallyRoom.{Addable}
 use Rattle.tally.specs.Width.{most32, most64, fitWidths}
 use Rattle.tally.proofs.TallyTurn.{added-length}
 use Rattle.tally.proofs.WidthLaws.{within-true, all-fit}

@@ -1,12 +1,11 @@
 -- A ray's entries in a list of their own, and what adding them needs. Assumes nothing.
-use mathlib.Core.Bool.{Bool, true, false, cond}
+use mathlib.Core.Bool.{true, false}
 use mathlib.Core.List.{List}
-use mathlib.Core.Path.{_≡_, refl, sym, ap, _∙_}
-use Prim.Native.Nat.{ℕ, _-_, _≤_}
+use mathlib.Core.Path.{_≡_, sym, ap, _∙_}
+use Prim.Native.Nat.{ℕ, _-_}
 use native.Mathlib.Omega.{arith}
 use denote.Triple.Both.{Both}
 use borrow.Author.Tests.{eq-eqb, ne-eqb}
-use lib.Dec.{eqb}
 use lib.ListN.{length, take}
 use lib.Seq.{sets, length-take-le}
 use Rattle.arithmetic.proofs.Places.{table-length}
@@ -15,9 +14,8 @@ use Rattle.placement.specs.declared.survey.Survey.{Survey}
 use Rattle.placement.specs.Survey.{RaySpan, surveyedRay}
 use Rattle.tally.specs.declared.gates.Weighting.{Weighting}
 use Rattle.tally.specs.LentSums.{Sums}
-use Rattle.tally.specs.Tally.{addedFirst, addedSums}
+use Rattle.tally.specs.Tally.{addedSums}
 use Rattle.tally.specs.TallyRoom.{Addable, AddsGates}
-use Rattle.tally.specs.Width.{fitWidths}
 use Rattle.tally.proofs.TallySplit.{added-taken}
 use Rattle.take_out.specs.TakeOutRoom.{AddedBefore}
 use Rattle.take_out.proofs.TakenOut.{sums-same}

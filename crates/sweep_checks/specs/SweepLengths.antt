@@ -1,6 +1,6 @@
 -- Document 02, T-01, refusal 6: the lengths of the lists that an operation of a sweep is lent. Assumes nothing.
 use mathlib.Core.Bool.{Bool, _&&_, not}
-use Prim.Native.Nat.{ℕ, _*_}
+use Prim.Native.Nat.{_*_}
 use lib.Dec.{eqb}
 use Rattle.scan.specs.declared.head.ScanHead.{ScanHead}
 use Rattle.scan.specs.Scan.{gatesOf, cellsOf}

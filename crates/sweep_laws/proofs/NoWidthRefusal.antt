@@ -14,7 +14,6 @@ use Rattle.scan.specs.ScanRefusal.{scanNumber}
 use Rattle.sweep_checks.specs.SweepNumbers.{stateNumber, takeNumber, closeNumber}
 use Rattle.accepted_take.specs.RayGroup.{RayGroup}
 use Rattle.accepted_take.specs.TakenLists.{takenLists, takeChecks, takeRefusal}
-use Rattle.sweep.specs.declared.Swept.the-variants.{Refused}
 use Rattle.sweep.specs.SweepOperations.{sweptAnswer, raysRefusal, counted, closeRefusal, ended}
 use Rattle.sweep_laws.specs.SweepSequence.{Held, Call, takes, closes, Sixteen, IsCall, NotRefusedBy}
 use Rattle.sweep_laws.proofs.SweepInvariant.{SoFar, always-fits}

@@ -1,11 +1,10 @@
 -- What holds after every call of a sequence, and that each call keeps it. Assumes nothing.
 use mathlib.Core.Bool.{Bool, true, false, cond}
-use mathlib.Core.List.{List, [], _∷_, _++_}
+use mathlib.Core.List.{List, _++_}
 use mathlib.Core.Path.{_≡_, refl, sym, ap, _∙_}
 use Prim.Native.Nat.{ℕ, _+_, _*_, _≤_}
 use native.Mathlib.Nat.{zero-add, mul-le-mul, le-antisymm}
 use native.Mathlib.Omega.{arith}
-use denote.Triple.Both.{Both}
 use borrow.Author.Tests.{leb-true}
 use lib.Dec.{leb}
 use lib.ListN.{length, getD, length-append}
@@ -17,7 +16,7 @@ use Rattle.refusal.specs.Answer.{afterwards}
 use Rattle.refusal.proofs.AnswerLaws.{given-is, refused-is, kept, filled-is}
 use Rattle.refusal.proofs.Then.{then-none}
 use Rattle.limits.specs.Accepted.{azimuthAccepted}
-use Rattle.tally.specs.LentSums.{Sums, Cells}
+use Rattle.tally.specs.LentSums.{Sums}
 use Rattle.tally.specs.Tally.{cleared, addedSums}
 use Rattle.tally.specs.Width.{fitWidths}
 use Rattle.tally.proofs.TallySplit.{added-joined}
@@ -27,7 +26,7 @@ use Rattle.publish.specs.Publish.{publishedCells}
 use Rattle.scan.specs.declared.head.ScanHead.{ScanHead}
 use Rattle.scan.specs.LentLists.{Lists}
 use Rattle.scan.specs.Rays.{regularRays}
-use Rattle.scan.specs.Scan.{Scan, raysOf, cellsOf}
+use Rattle.scan.specs.Scan.{raysOf, cellsOf}
 use Rattle.scan.specs.ScanRefusal.{qualityAccepted}
 use Rattle.scan_ledger.specs.ScanLedger.{ledgerOf}
 use Rattle.accepted_remap.specs.FilledLists.{filledLists}
@@ -35,11 +34,9 @@ use Rattle.accepted_remap.proofs.FilledCells.{published-are}
 use Rattle.accepted_take.specs.RayGroup.{RayGroup, RayLists}
 use Rattle.accepted_take.specs.TakenLists.{groupLedger, takenLists, takeChecks, takeRefusal}
 use Rattle.accepted_take.proofs.AcceptedGroup.{AcceptedSums, AcceptedGroup, accepted-group}
-use Rattle.sweep.specs.declared.Sweep.{Sweep}
-use Rattle.sweep.specs.declared.Swept.{Swept}
 use Rattle.sweep.specs.declared.Swept.the-variants.{State, Refused}
-use Rattle.sweep.specs.SweepOperations.{sweptAnswer, raysRefusal, counted, Takes, closeRefusal, ended, Closes}
-use Rattle.sweep.proofs.ClosedSweep.{AcceptedClose, accepted-close}
+use Rattle.sweep.specs.SweepOperations.{sweptAnswer, raysRefusal, counted, closeRefusal, ended}
+use Rattle.sweep.proofs.ClosedSweep.{accepted-close}
 use Rattle.sweep_laws.specs.SweepSequence.{Held, Call, takes, closes, latest, handedOn, Sixteen, IsCall, joined, acceptedWith, wholeScan}
 use Rattle.sweep_laws.proofs.JoinedRays.{all-joined, lengths-joined, ledger-joined, ledger-length}
 

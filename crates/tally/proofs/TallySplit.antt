@@ -12,7 +12,7 @@ use Rattle.tally.specs.Gates.{weighed}
 use Rattle.tally.specs.LentSums.{Sums}
 use Rattle.tally.specs.Tally.{contributes, sumOver, added, addedFirst, addedSums}
 use Rattle.tally.specs.declared.gates.Weighting.{Weighting}
-use Rattle.tally.proofs.TallyTurn.{given, none-added}
+use Rattle.tally.proofs.TallyTurn.{none-added}
 
 -- a share and then another are added as their sum
 added-twice : (f g whole : ℕ → ℕ) → ((cell : ℕ) → whole cell ≡ f cell + g cell) → (held : List ℕ) → added g (added f held) ≡ added whole held

@@ -1,5 +1,5 @@
 -- `accepted_remap::accepted_remap` meets its contract, step by step: survey, ledger, cleared sums, tally, published cells. Assumes nothing.
-use mathlib.Core.Path.{_≡_, ap, _∙_}
+use mathlib.Core.Path.{_≡_, _∙_}
 use Prim.Native.Nat.{ℕ, _≤_}
 use native.Mathlib.Omega.{arith}
 use lib.ListN.{getD}

@@ -1,10 +1,9 @@
 -- `accepted_take::accepted_take` meets its contract: the sums of all rays or none, then the ledger. Assumes nothing.
-use mathlib.Core.Path.{_≡_, refl, sym, ap, _∙_}
-use Prim.Native.Nat.{ℕ, _*_, _≤_}
+use mathlib.Core.Path.{refl, sym, ap, _∙_}
+use Prim.Native.Nat.{_*_}
 use native.Mathlib.Nat.{mul-le-mul}
 use native.Mathlib.Omega.{arith}
 use borrow.Author.Tests.{not-true, not-false}
-use lib.ListN.{length, take, replicate}
 use lib.Seq.{sets, length-take-le}
 use Rattle.arithmetic.proofs.Machine.{fits-unsigned}
 use Rattle.accepted_take.specs.RayGroup.{groupHeld, rayListsHeld}
@@ -30,7 +29,8 @@ slice-aggregate-add-rays : tie.Need-slice-aggregate-add-rays
 slice-aggregate-add-rays c = sym (length-take-le _ _ (array-borrow-prefix-entries (c .before)))
 
 add-rays-requires : tie.Need-add-rays-requires
-add-rays-requires c κs = (rw (c .before .before .before .before .survey-of .ensures) (is-surveyed (good (c .before .before .before .before .before .before .before .before .before .before .before .before .before .before))), addable (good (c .before .before .before .before .before .before .before .before .before .before .before .before .before .before)) (length-take-le _ _ (good (c .before .before .before .before .before .before .before .before .before .before .before .before .before .before) .gates-most)))
+add-rays-requires c κs = let s = c .before .before .before .before .before .before .before .before .before .before .before .before .before .before in
+    (rw (c .before .before .before .before .survey-of .ensures) (is-surveyed (good (s))), addable (good (s)) (length-take-le _ _ (good (s) .gates-most)))
 
 same-length : tie.Need-same-length
 same-length c = search needs
@@ -48,7 +48,8 @@ mul-scan-ledger : tie.Need-mul-scan-ledger
 mul-scan-ledger c = let g = good (c .before .before .before .before .before .before .before .before .before .before .before .before .before .before .before .before .before .before .before .before .before .before .before .before) in fits-unsigned {m = 720 * 1000} (mul-le-mul {n₂ = 720} {m₂ = 1000} (omega (arith, g .rays-most, g .rays-limit)) (g .gates-most)) tt
 
 scan-ledger-requires : tie.Need-scan-ledger-requires
-scan-ledger-requires c κs = (rw (c .before .before .before .before .before .before .before .before .before .before .before .before .before .before .survey-of .ensures) (is-surveyed (good (c .before .before .before .before .before .before .before .before .before .before .before .before .before .before .before .before .before .before .before .before .before .before .before .before))), rays-span (good (c .before .before .before .before .before .before .before .before .before .before .before .before .before .before .before .before .before .before .before .before .before .before .before .before)) refl)
+scan-ledger-requires c κs = let s = c .before .before .before .before .before .before .before .before .before .before .before .before .before .before .before .before .before .before .before .before .before .before .before .before in
+    (rw (c .before .before .before .before .before .before .before .before .before .before .before .before .before .before .survey-of .ensures) (is-surveyed (good (s))), rays-span (good (s)) refl)
 
 same-length-4 : tie.Need-same-length-4
 same-length-4 c = search needs
@@ -63,9 +64,11 @@ same-length-7 : tie.Need-same-length-7
 same-length-7 c = search needs
 
 returns-2 : tie.Need-returns-2
-returns-2 c = let g = good (c .before .before .before .before .before .before .before .before .before .before .before .before .before .before .before .before .before .before .before .before .before .before .before .before .before .before .before) in
-    let a = c .before .before .before .before .before .before .before .before .before .before .before .before .before .before .before .before .before .before .before .before .before .before .before .before .before .before .before .args in
-    group-taken g (ledger-is g _ _ (c .before .before .before .before .before .before .before .before .before .before .before .before .before .before .before .before .before .survey-of .ensures) (length-take-le _ _ (g .gates-most))) (c .before .before .before .before .before .before .before .before .before .before .before .before .add-rays .ensures) (not-false _ (c .before .before .before .before .if1 .left)) (c .before .before .scan-ledger .ensures ∙ ap (sets (a .ledger .now) (a .taken * a .head .gates)) (ledger-is g _ _ (c .before .before .before .before .before .before .before .before .before .before .before .before .before .before .before .before .before .survey-of .ensures) refl))
+returns-2 c = let s = c .before .before .before .before .before .before .before .before .before .before .before .before .before .before .before .before .before .before .before .before .before .before .before .before .before .before .before in
+    let survey-of-call = c .before .before .before .before .before .before .before .before .before .before .before .before .before .before .before .before .before .survey-of in
+    let g = good (s) in
+    let a = s .args in
+    group-taken g (ledger-is g _ _ (survey-of-call .ensures) (length-take-le _ _ (g .gates-most))) (c .before .before .before .before .before .before .before .before .before .before .before .before .add-rays .ensures) (not-false _ (c .before .before .before .before .if1 .left)) (c .before .before .scan-ledger .ensures ∙ ap (sets (a .ledger .now) (a .taken * a .head .gates)) (ledger-is g _ _ (survey-of-call .ensures) refl))
 
 pub accepted-take-spec : {M : Type 1} → statement M
 accepted-take-spec =

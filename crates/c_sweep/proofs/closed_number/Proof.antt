@@ -1,6 +1,5 @@
 -- `c_sweep::closed_number` meets its contract. Assumes nothing.
 use Rattle.c_sweep.specs.SweepStruct.{closedNumber}
-use borrow.Author.Needs.{needs}
 use Rattle.c_sweep.proofs.closed_number.Statement.{statement}
 use Rattle.c_sweep.proofs.closed_number.Tie as tie
 

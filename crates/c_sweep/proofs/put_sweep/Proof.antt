@@ -62,9 +62,11 @@ closed-number-requires c κs = search needs
 
 returns : tie.Need-returns
 unfolding sweepNumbers headNumbers
-returns c = let words = c .before .before .before .before .before .before .before .before .before .before .before .before .before .before .before .before .put-head .last .1 .0 in
-    let written : words ≡ headNumbers (c .before .before .before .before .before .before .before .before .before .before .before .before .before .before .before .before .before .before .before .args .sweep .head) = c .before .before .before .before .before .before .before .before .before .before .before .before .before .before .before .before .put-head .ensures in
-    (word-back (getD words 0 (pos 0)) (c .before .before .before .before .before .before .before .before .before .before .before .before .before .before .before .t9 .given) ∙ ap (λ (l : List ℤ). getD l 0 (pos 0)) written) also (word-back (getD words 1 (pos 0)) (c .before .before .before .before .before .before .before .before .before .before .before .before .before .before .t12 .given) ∙ ap (λ (l : List ℤ). getD l 1 (pos 0)) written) also (word-back (getD words 2 (pos 0)) (c .before .before .before .before .before .before .before .before .before .before .before .before .before .t15 .given) ∙ ap (λ (l : List ℤ). getD l 2 (pos 0)) written) also (word-back (getD words 3 (pos 0)) (c .before .before .before .before .before .before .before .before .before .before .before .before .t18 .given) ∙ ap (λ (l : List ℤ). getD l 3 (pos 0)) written) also (word-back (getD words 4 (pos 0)) (c .before .before .before .before .before .before .before .before .before .before .before .t21 .given) ∙ ap (λ (l : List ℤ). getD l 4 (pos 0)) written) also (word-back (getD words 5 (pos 0)) (c .before .before .before .before .before .before .before .before .before .before .t24 .given) ∙ ap (λ (l : List ℤ). getD l 5 (pos 0)) written) also (word-back (getD words 6 (pos 0)) (c .before .before .before .before .before .before .before .before .before .t27 .given) ∙ ap (λ (l : List ℤ). getD l 6 (pos 0)) written) also (word-back (getD words 7 (pos 0)) (c .before .before .before .before .before .before .before .before .t30 .given) ∙ ap (λ (l : List ℤ). getD l 7 (pos 0)) written) also (word-back (getD words 8 (pos 0)) (c .before .before .before .before .before .before .before .t33 .given) ∙ ap (λ (l : List ℤ). getD l 8 (pos 0)) written) also (word-back (getD words 9 (pos 0)) (c .before .before .before .before .before .before .t36 .given) ∙ ap (λ (l : List ℤ). getD l 9 (pos 0)) written) also (word-back (getD words 10 (pos 0)) (c .before .before .before .before .before .t39 .given) ∙ ap (λ (l : List ℤ). getD l 10 (pos 0)) written) also (word-back (getD words 11 (pos 0)) (c .before .before .before .before .t42 .given) ∙ ap (λ (l : List ℤ). getD l 11 (pos 0)) written) also (word-back (getD words 12 (pos 0)) (c .before .before .before .t45 .given) ∙ ap (λ (l : List ℤ). getD l 12 (pos 0)) written) also small-word _ (c .before .before .struct-known .given .1 .0 .fits) also read-result (c .before .closed-number .ok) (c .before .closed-number .ensures) also refl
+returns c = let put-head-call = c .before .before .before .before .before .before .before .before .before .before .before .before .before .before .before .before .put-head in
+    let closed-number-call = c .before .closed-number in
+    let words = put-head-call .last .1 .0 in
+    let written : words ≡ headNumbers (c .before .before .before .before .before .before .before .before .before .before .before .before .before .before .before .before .before .before .before .args .sweep .head) = put-head-call .ensures in
+    (word-back (getD words 0 (pos 0)) (c .before .before .before .before .before .before .before .before .before .before .before .before .before .before .before .t9 .given) ∙ ap (λ (l : List ℤ). getD l 0 (pos 0)) written) also (word-back (getD words 1 (pos 0)) (c .before .before .before .before .before .before .before .before .before .before .before .before .before .before .t12 .given) ∙ ap (λ (l : List ℤ). getD l 1 (pos 0)) written) also (word-back (getD words 2 (pos 0)) (c .before .before .before .before .before .before .before .before .before .before .before .before .before .t15 .given) ∙ ap (λ (l : List ℤ). getD l 2 (pos 0)) written) also (word-back (getD words 3 (pos 0)) (c .before .before .before .before .before .before .before .before .before .before .before .before .t18 .given) ∙ ap (λ (l : List ℤ). getD l 3 (pos 0)) written) also (word-back (getD words 4 (pos 0)) (c .before .before .before .before .before .before .before .before .before .before .before .t21 .given) ∙ ap (λ (l : List ℤ). getD l 4 (pos 0)) written) also (word-back (getD words 5 (pos 0)) (c .before .before .before .before .before .before .before .before .before .before .t24 .given) ∙ ap (λ (l : List ℤ). getD l 5 (pos 0)) written) also (word-back (getD words 6 (pos 0)) (c .before .before .before .before .before .before .before .before .before .t27 .given) ∙ ap (λ (l : List ℤ). getD l 6 (pos 0)) written) also (word-back (getD words 7 (pos 0)) (c .before .before .before .before .before .before .before .before .t30 .given) ∙ ap (λ (l : List ℤ). getD l 7 (pos 0)) written) also (word-back (getD words 8 (pos 0)) (c .before .before .before .before .before .before .before .t33 .given) ∙ ap (λ (l : List ℤ). getD l 8 (pos 0)) written) also (word-back (getD words 9 (pos 0)) (c .before .before .before .before .before .before .t36 .given) ∙ ap (λ (l : List ℤ). getD l 9 (pos 0)) written) also (word-back (getD words 10 (pos 0)) (c .before .before .before .before .before .t39 .given) ∙ ap (λ (l : List ℤ). getD l 10 (pos 0)) written) also (word-back (getD words 11 (pos 0)) (c .before .before .before .before .t42 .given) ∙ ap (λ (l : List ℤ). getD l 11 (pos 0)) written) also (word-back (getD words 12 (pos 0)) (c .before .before .before .t45 .given) ∙ ap (λ (l : List ℤ). getD l 12 (pos 0)) written) also small-word _ (c .before .before .struct-known .given .1 .0 .fits) also read-result (closed-number-call .ok) (closed-number-call .ensures) also refl
 
 pub put-sweep-spec : {M : Type 1} → statement M
 put-sweep-spec =

@@ -1,6 +1,6 @@
 -- `c_sweep::sweep_of` meets its contract, number by number. Assumes nothing.
 use mathlib.Core.Bool.{not}
-use mathlib.Core.Path.{_≡_, refl, ap, _∙_}
+use mathlib.Core.Path.{ap, _∙_}
 use lib.IntN.{pos}
 use lib.ListN.{getD}
 use Rattle.arithmetic.proofs.Machine.{word-back}

@@ -1,7 +1,7 @@
 -- `group_sums::add_rays` meets its contract. The loop's invariant: the gates of the rays before this one are added, and no count or sum passes its
 -- width. Assumes nothing.
 use mathlib.Core.Path.{_≡_, refl, sym, ap, _∙_}
-use Prim.Native.Nat.{ℕ, _+_, _*_, _-_, _≤_, _<_}
+use Prim.Native.Nat.{ℕ, _+_, _*_, _-_, _≤_}
 use native.Mathlib.Nat.{zero-mul, le-antisymm}
 use native.Mathlib.Omega.{arith}
 use borrow.Author.Tests.{not-true, not-false}
@@ -26,7 +26,9 @@ loop-holds : tie.Need-loop-holds Inv-loop μ-loop
 loop-holds c = (search needs, sym (zero-mul _), refl, none-yet (λ cell. omega (arith, c .before .before .slice-known2 .given cell)) (λ cell. omega (arith, c .before .slice-known3 .given cell)) (λ cell. omega (arith, c .slice-known4 .given cell)))
 
 add-end : tie.Need-add-end Inv-loop μ-loop
-add-end c = let a = c .before .before .before .before .before .before .before .before .before .args in omega (arith, ray-end (c .before .loop .ray) (length (a .azimuths .now)) (length (a .entries .now)) (c .loop-test .taken), c .before .loop .inv .1, c .before .before .before .before .before .before .before .before .before .pre .1 .values-length, c .before .before .before .before .before .before .before .before .before .good .1 .1 .1 .1 .1 .1 .0 .0)
+add-end c = let s = c .before .before .before .before .before .before .before .before .before in
+    let turn = c .before .loop in
+    let a = s .args in omega (arith, ray-end (turn .ray) (length (a .azimuths .now)) (length (a .entries .now)) (c .loop-test .taken), turn .inv .1, s .pre .1 .values-length, s .good .1 .1 .1 .1 .1 .1 .0 .0)
 
 mul-add-ray : tie.Need-mul-add-ray Inv-loop μ-loop
 mul-add-ray c = search needs
@@ -35,7 +37,9 @@ shared-slice-read-add-ray : tie.Need-shared-slice-read-add-ray Inv-loop μ-loop
 shared-slice-read-add-ray c = search needs
 
 mul-add-ray-2 : tie.Need-mul-add-ray-2 Inv-loop μ-loop
-mul-add-ray-2 c = let a = c .before .before .before .before .before .before .before .before .before .before .before .args in omega (arith, ray-end (c .before .before .before .loop .ray) (length (a .azimuths .now)) (length (a .entries .now)) (c .before .before .loop-test .taken), c .before .before .before .loop .inv .1, c .before .before .before .before .before .before .before .before .before .before .before .pre .1 .values-length, c .before .before .before .before .before .before .before .before .before .before .before .good .1 .1 .1 .1 .1 .1 .0 .0, c .before .before .before .before .before .before .before .before .before .before .before .good .1 .1 .1 .1 .1 .1 .0 .1)
+mul-add-ray-2 c = let s = c .before .before .before .before .before .before .before .before .before .before .before in
+    let turn = c .before .before .before .loop in
+    let a = s .args in omega (arith, ray-end (turn .ray) (length (a .azimuths .now)) (length (a .entries .now)) (c .before .before .loop-test .taken), turn .inv .1, s .pre .1 .values-length, s .good .1 .1 .1 .1 .1 .1 .0 .0, s .good .1 .1 .1 .1 .1 .1 .0 .1)
 
 sub-add-ray : tie.Need-sub-add-ray Inv-loop μ-loop
 sub-add-ray c = search needs
@@ -44,7 +48,9 @@ part-add-ray-start : tie.Need-part-add-ray-start Inv-loop μ-loop
 part-add-ray-start c = search needs
 
 part-add-ray-end : tie.Need-part-add-ray-end Inv-loop μ-loop
-part-add-ray-end c = let a = c .before .before .before .before .before .before .before .before .before .before .before .args in omega (arith, ray-end (c .before .before .before .loop .ray) (length (a .azimuths .now)) (length (a .entries .now)) (c .before .before .loop-test .taken), c .before .before .before .loop .inv .1, c .before .before .before .before .before .before .before .before .before .before .before .pre .1 .values-length)
+part-add-ray-end c = let s = c .before .before .before .before .before .before .before .before .before .before .before in
+    let turn = c .before .before .before .loop in
+    let a = s .args in omega (arith, ray-end (turn .ray) (length (a .azimuths .now)) (length (a .entries .now)) (c .before .before .loop-test .taken), turn .inv .1, s .pre .1 .values-length)
 
 sub-add-ray-2 : tie.Need-sub-add-ray-2 Inv-loop μ-loop
 sub-add-ray-2 c = search needs
@@ -53,17 +59,24 @@ part-add-ray-start-2 : tie.Need-part-add-ray-start-2 Inv-loop μ-loop
 part-add-ray-start-2 c = search needs
 
 part-add-ray-end-2 : tie.Need-part-add-ray-end-2 Inv-loop μ-loop
-part-add-ray-end-2 c = let a = c .before .before .before .before .before .before .before .before .before .before .before .before .args in omega (arith, ray-end (c .before .before .before .before .loop .ray) (length (a .azimuths .now)) (length (a .entries .now)) (c .before .before .before .loop-test .taken), c .before .before .before .before .loop .inv .1, c .before .before .before .before .before .before .before .before .before .before .before .before .pre .1 .qualities-length)
+part-add-ray-end-2 c = let s = c .before .before .before .before .before .before .before .before .before .before .before .before in
+    let turn = c .before .before .before .before .loop in
+    let a = s .args in omega (arith, ray-end (turn .ray) (length (a .azimuths .now)) (length (a .entries .now)) (c .before .before .before .loop-test .taken), turn .inv .1, s .pre .1 .qualities-length)
 
 add-ray-requires : tie.Need-add-ray-requires Inv-loop μ-loop
-add-ray-requires c κs = let a = c .before .before .before .before .before .before .before .before .before .before .before .before .before .before .before .before .args in (c .before .before .before .before .before .before .before .before .before .before .before .before .before .before .before .before .pre .0, added-room (a .survey) (a .first) (a .spacing) (length (a .entries .now)) (a .azimuths .now) (a .values .now) (a .qualities .now) (c .before .before .before .before .before .before .before .before .loop .ray) _ _ (c .before .before .before .before .before .before .before .loop-test .taken) (c .before .before .before .before .before .before .before .before .loop .inv .1) refl (c .before .before .before .before .before .before .before .before .loop .inv .3) (c .before .before .before .before .before .before .before .before .before .before .before .before .before .before .before .before .pre .1) refl (c .before .before .before .before .before .before .before .before .loop .inv .2))
+add-ray-requires c κs = let s = c .before .before .before .before .before .before .before .before .before .before .before .before .before .before .before .before in
+    let turn = c .before .before .before .before .before .before .before .before .loop in
+    let a = s .args in (s .pre .0, added-room (a .survey) (a .first) (a .spacing) (length (a .entries .now)) (a .azimuths .now) (a .values .now) (a .qualities .now) (turn .ray) _ _ (c .before .before .before .before .before .before .before .loop-test .taken) (turn .inv .1) refl (turn .inv .3) (s .pre .1) refl (turn .inv .2))
 
 take-out-rays-requires : tie.Need-take-out-rays-requires Inv-loop μ-loop
-take-out-rays-requires c κs = let a = c .before .before .before .before .before .before .before .before .before .before .before .before .before .before .before .before .before .before .before .before .before .before .before .before .before .before .before .before .before .before .args in
-    let l = c .before .before .before .before .before .before .before .before .before .before .before .before .before .before .before .before .before .before .before .before .before .before .loop .inv in
-    let kept = c .before .before .before .before .before .before .before .before .before .before .before .before .before .add-ray .kept .1 .1 .1 .1 .1 .0 ∙ l .2 in
-    let left = ray-left (a .survey) (a .first) (a .spacing) (length (a .entries .now)) (a .azimuths .now) (a .values .now) (a .qualities .now) (c .before .before .before .before .before .before .before .before .before .before .before .before .before .before .before .before .before .before .before .before .before .before .loop .ray) _ _ (c .before .before .before .before .before .before .before .before .before .before .before .before .before .before .before .before .before .before .before .before .before .loop-test .taken) (c .before .before .before .before .before .before .before .before .before .before .before .before .before .before .before .before .before .before .before .before .before .before .loop .inv .1) refl (l .3) (rw (l .2) at (c .before .before .before .before .before .before .before .before .before .before .before .before .before .add-ray .ensures)) (not-true _ (c .before .before .before .before .if1 .taken)) in
-    (c .before .before .before .before .before .before .before .before .before .before .before .before .before .before .before .before .before .before .before .before .before .before .before .before .before .before .before .before .before .before .pre .0, same-room (c .before .before .before .before .before .before .before .before .before .before .before .before .before .before .before .before .before .before .before .before .before .before .before .before .before .before .before .before .before .before .pre .1) kept _ _ _ left, l .0, rw (kept, ← l .1) (record { before = _; added-then = left }))
+take-out-rays-requires c κs = let s = c .before .before .before .before .before .before .before .before .before .before .before .before .before .before .before .before .before .before .before .before .before .before .before .before .before .before .before .before .before .before in
+    let turn = c .before .before .before .before .before .before .before .before .before .before .before .before .before .before .before .before .before .before .before .before .before .before .loop in
+    let add-ray-call = c .before .before .before .before .before .before .before .before .before .before .before .before .before .add-ray in
+    let a = s .args in
+    let l = turn .inv in
+    let kept = add-ray-call .kept .1 .1 .1 .1 .1 .0 ∙ l .2 in
+    let left = ray-left (a .survey) (a .first) (a .spacing) (length (a .entries .now)) (a .azimuths .now) (a .values .now) (a .qualities .now) (turn .ray) _ _ (c .before .before .before .before .before .before .before .before .before .before .before .before .before .before .before .before .before .before .before .before .before .loop-test .taken) (turn .inv .1) refl (l .3) (rw (l .2) at (add-ray-call .ensures)) (not-true _ (c .before .before .before .before .if1 .taken)) in
+    (s .pre .0, same-room (s .pre .1) kept _ _ _ left, l .0, rw (kept, ← l .1) (record { before = _; added-then = left }))
 
 same-length : tie.Need-same-length Inv-loop μ-loop
 same-length c = search needs
@@ -79,11 +92,14 @@ same-length-4 c = c .before .before .before .before .before .before .before .bef
 
 returns : tie.Need-returns Inv-loop μ-loop
 returns c = let a = c .before .before .before .before .before .before .before .before .before .before .before .before .before .before .before .before .before .before .before .before .before .before .before .before .before .before .before .before .before .before .before .before .before .before .before .before .before .before .before .args in
-    let l = c .before .before .before .before .before .before .before .before .before .before .before .before .before .before .before .before .before .before .before .before .before .before .before .before .before .before .before .before .before .before .before .loop .inv in
-    let kept = c .before .before .before .before .before .before .before .before .before .before .before .before .before .before .before .before .before .before .before .before .before .before .add-ray .kept .1 .1 .1 .1 .1 .0 ∙ l .2 in
-    let adds = rw (l .2) at (c .before .before .before .before .before .before .before .before .before .before .before .before .before .before .before .before .before .before .before .before .before .before .add-ray .ensures) in
+    let turn = c .before .before .before .before .before .before .before .before .before .before .before .before .before .before .before .before .before .before .before .before .before .before .before .before .before .before .before .before .before .before .before .loop in
+    let add-ray-call = c .before .before .before .before .before .before .before .before .before .before .before .before .before .before .before .before .before .before .before .before .before .before .add-ray in
+    let loop-test-call = c .before .before .before .before .before .before .before .before .before .before .before .before .before .before .before .before .before .before .before .before .before .before .before .before .before .before .before .before .before .before .loop-test in
+    let l = turn .inv in
+    let kept = add-ray-call .kept .1 .1 .1 .1 .1 .0 ∙ l .2 in
+    let adds = rw (l .2) at (add-ray-call .ensures) in
     let was = not-true _ (c .before .before .before .before .before .before .before .before .before .before .before .before .before .if1 .taken) in
-    no-ray (c .before .before .before .before .before .before .before .before .before .before .before .before .before .before .before .before .before .before .before .before .before .before .before .before .before .before .before .before .before .before .before .loop .start) (ray-left (a .survey) (a .first) (a .spacing) (length (a .entries .now)) (a .azimuths .now) (a .values .now) (a .qualities .now) (c .before .before .before .before .before .before .before .before .before .before .before .before .before .before .before .before .before .before .before .before .before .before .before .before .before .before .before .before .before .before .before .loop .ray) _ _ (c .before .before .before .before .before .before .before .before .before .before .before .before .before .before .before .before .before .before .before .before .before .before .before .before .before .before .before .before .before .before .loop-test .taken) (c .before .before .before .before .before .before .before .before .before .before .before .before .before .before .before .before .before .before .before .before .before .before .before .before .before .before .before .before .before .before .before .loop .inv .1) refl (l .3) adds was) (rw (kept, ← l .1) at (c .before .before .before .before .before .before .before .before .take-out-rays .ensures)) (none-fit (a .survey) (a .first) (a .spacing) (length (a .entries .now)) (a .azimuths .now) (a .values .now) (a .qualities .now) (c .before .before .before .before .before .before .before .before .before .before .before .before .before .before .before .before .before .before .before .before .before .before .before .before .before .before .before .before .before .before .before .loop .ray) _ _ (c .before .before .before .before .before .before .before .before .before .before .before .before .before .before .before .before .before .before .before .before .before .before .before .before .before .before .before .before .before .before .loop-test .taken) (c .before .before .before .before .before .before .before .before .before .before .before .before .before .before .before .before .before .before .before .before .before .before .before .before .before .before .before .before .before .before .before .loop .inv .1) refl (l .3) adds was)
+    no-ray (turn .start) (ray-left (a .survey) (a .first) (a .spacing) (length (a .entries .now)) (a .azimuths .now) (a .values .now) (a .qualities .now) (turn .ray) _ _ (loop-test-call .taken) (turn .inv .1) refl (l .3) adds was) (rw (kept, ← l .1) at (c .before .before .before .before .before .before .before .before .take-out-rays .ensures)) (none-fit (a .survey) (a .first) (a .spacing) (length (a .entries .now)) (a .azimuths .now) (a .values .now) (a .qualities .now) (turn .ray) _ _ (loop-test-call .taken) (turn .inv .1) refl (l .3) adds was)
 
 add-ray : tie.Need-add-ray Inv-loop μ-loop
 add-ray c = omega (arith, c .before .before .before .before .before .before .before .before .before .before .before .before .before .before .before .before .before .before .before .before .before .before .before .before .before .before .good .1 .1 .1 .1 .1 .0 .0)
@@ -93,8 +109,10 @@ loop-less c = search needs
 
 loop-again : tie.Need-loop-again Inv-loop μ-loop
 loop-again c = let a = c .before .before .before .before .before .before .before .before .before .before .before .before .before .before .before .before .before .before .before .before .before .before .before .before .before .before .args in
-    let l = c .before .before .before .before .before .before .before .before .before .before .before .before .before .before .before .before .before .before .loop .inv in
-    (omega arith, ap (λ (n : ℕ). n + length (a .entries .now)) (l .1) ∙ sym (next-start _ (c .before .before .before .before .before .before .before .before .before .before .before .before .before .before .before .before .before .before .loop .ray) (length (a .entries .now)) refl), c .before .before .before .before .before .before .before .before .before .add-ray .kept .1 .1 .1 .1 .1 .0 ∙ l .2, ray-added (a .survey) (a .first) (a .spacing) (length (a .entries .now)) (a .azimuths .now) (a .values .now) (a .qualities .now) (c .before .before .before .before .before .before .before .before .before .before .before .before .before .before .before .before .before .before .loop .ray) _ _ (c .before .before .before .before .before .before .before .before .before .before .before .before .before .before .before .before .before .loop-test .taken) (c .before .before .before .before .before .before .before .before .before .before .before .before .before .before .before .before .before .before .loop .inv .1) refl (l .3) (rw (l .2) at (c .before .before .before .before .before .before .before .before .before .add-ray .ensures)) (not-false _ (c .if1 .left)))
+    let turn = c .before .before .before .before .before .before .before .before .before .before .before .before .before .before .before .before .before .before .loop in
+    let add-ray-call = c .before .before .before .before .before .before .before .before .before .add-ray in
+    let l = turn .inv in
+    (omega arith, ap (λ (n : ℕ). n + length (a .entries .now)) (l .1) ∙ sym (next-start _ (turn .ray) (length (a .entries .now)) refl), add-ray-call .kept .1 .1 .1 .1 .1 .0 ∙ l .2, ray-added (a .survey) (a .first) (a .spacing) (length (a .entries .now)) (a .azimuths .now) (a .values .now) (a .qualities .now) (turn .ray) _ _ (c .before .before .before .before .before .before .before .before .before .before .before .before .before .before .before .before .before .loop-test .taken) (turn .inv .1) refl (l .3) (rw (l .2) at (add-ray-call .ensures)) (not-false _ (c .if1 .left)))
 
 same-length-5 : tie.Need-same-length-5 Inv-loop μ-loop
 same-length-5 c = search needs

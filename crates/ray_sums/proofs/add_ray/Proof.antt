@@ -1,17 +1,15 @@
 -- `ray_sums::add_ray` meets its contract: where a gate has no room, those before it are taken out again. Assumes nothing.
-use mathlib.Core.Path.{_≡_, sym, ap, _∙_}
-use Prim.Native.Nat.{_≤_}
+use mathlib.Core.Path.{sym, _∙_}
 use native.Mathlib.Omega.{arith}
-use lib.ListN.{length}
 use lib.Seq.{length-take-le}
-use Rattle.placement.specs.Survey.{surveyedRay}
 use Rattle.ray_sums.proofs.RayLedger.{is-ray, same-gates, ray-span, ray-addable, all-of-them, first-added, none-of-them}
 use borrow.Author.Needs.{needs}
 use Rattle.ray_sums.proofs.add_ray.Statement.{statement}
 use Rattle.ray_sums.proofs.add_ray.Tie as tie
 
 ray-ledger-requires : tie.Need-ray-ledger-requires
-ray-ledger-requires c κs = (c .before .before .before .before .before .before .before .pre .0, ray-span (c .before .before .before .before .before .before .before .pre .1))
+ray-ledger-requires c κs = let asked = c .before .before .before .before .before .before .before .pre in
+    (asked .0, ray-span (asked .1))
 
 add-gates-requires : tie.Need-add-gates-requires
 add-gates-requires c κs = search needs
@@ -40,13 +38,16 @@ slice-aggregate-take-out-gates : tie.Need-slice-aggregate-take-out-gates
 slice-aggregate-take-out-gates c = sym (length-take-le _ _ (c .before .before .before .before .before .before .before .before .add-gates .ensures .gates-most))
 
 slice-aggregate-take-out-gates-2 : tie.Need-slice-aggregate-take-out-gates-2
-slice-aggregate-take-out-gates-2 c = let a = c .before .before .before .before .before .before .before .before .before .before .before .before .before .before .before .before .before .before .before .before .before .before .before .before .args in sym (length-take-le _ _ (omega (arith, c .before .before .before .before .before .before .before .before .before .add-gates .ensures .gates-most, same-gates (a .survey) (a .first) (a .spacing) (a .azimuth) (a .entries .now) (c .before .before .before .before .before .before .before .before .before .before .before .before .before .before .before .before .ray-ledger .ensures), c .before .before .before .before .before .before .before .before .before .before .before .before .before .before .before .before .before .before .before .before .before .before .before .before .pre .1 .values-length)))
+slice-aggregate-take-out-gates-2 c = let s = c .before .before .before .before .before .before .before .before .before .before .before .before .before .before .before .before .before .before .before .before .before .before .before .before in
+    let a = s .args in sym (length-take-le _ _ (omega (arith, c .before .before .before .before .before .before .before .before .before .add-gates .ensures .gates-most, same-gates (a .survey) (a .first) (a .spacing) (a .azimuth) (a .entries .now) (c .before .before .before .before .before .before .before .before .before .before .before .before .before .before .before .before .ray-ledger .ensures), s .pre .1 .values-length)))
 
 slice-aggregate-take-out-gates-3 : tie.Need-slice-aggregate-take-out-gates-3
-slice-aggregate-take-out-gates-3 c = let a = c .before .before .before .before .before .before .before .before .before .before .before .before .before .before .before .before .before .before .before .before .before .before .before .before .before .args in sym (length-take-le _ _ (omega (arith, c .before .before .before .before .before .before .before .before .before .before .add-gates .ensures .gates-most, same-gates (a .survey) (a .first) (a .spacing) (a .azimuth) (a .entries .now) (c .before .before .before .before .before .before .before .before .before .before .before .before .before .before .before .before .before .ray-ledger .ensures), c .before .before .before .before .before .before .before .before .before .before .before .before .before .before .before .before .before .before .before .before .before .before .before .before .before .pre .1 .qualities-length)))
+slice-aggregate-take-out-gates-3 c = let s = c .before .before .before .before .before .before .before .before .before .before .before .before .before .before .before .before .before .before .before .before .before .before .before .before .before in
+    let a = s .args in sym (length-take-le _ _ (omega (arith, c .before .before .before .before .before .before .before .before .before .before .add-gates .ensures .gates-most, same-gates (a .survey) (a .first) (a .spacing) (a .azimuth) (a .entries .now) (c .before .before .before .before .before .before .before .before .before .before .before .before .before .before .before .before .before .ray-ledger .ensures), s .pre .1 .qualities-length)))
 
 take-out-gates-requires : tie.Need-take-out-gates-requires
-take-out-gates-requires c κs = let a = c .before .before .before .before .before .before .before .before .before .before .before .before .before .before .before .before .before .before .before .before .before .before .before .before .before .before .before .before .args in first-added (c .before .before .before .before .before .before .before .before .before .before .before .before .before .add-gates .ensures) (ray-addable (c .before .before .before .before .before .before .before .before .before .before .before .before .before .before .before .before .before .before .before .before .before .before .before .before .before .before .before .before .pre .1) (same-gates (a .survey) (a .first) (a .spacing) (a .azimuth) (a .entries .now) (c .before .before .before .before .before .before .before .before .before .before .before .before .before .before .before .before .before .before .before .before .ray-ledger .ensures)))
+take-out-gates-requires c κs = let s = c .before .before .before .before .before .before .before .before .before .before .before .before .before .before .before .before .before .before .before .before .before .before .before .before .before .before .before .before in
+    let a = s .args in first-added (c .before .before .before .before .before .before .before .before .before .before .before .before .before .add-gates .ensures) (ray-addable (s .pre .1) (same-gates (a .survey) (a .first) (a .spacing) (a .azimuth) (a .entries .now) (c .before .before .before .before .before .before .before .before .before .before .before .before .before .before .before .before .before .before .before .before .ray-ledger .ensures)))
 
 same-length-5 : tie.Need-same-length-5
 same-length-5 c = search needs

@@ -1,6 +1,5 @@
 -- `take_out::take_out_gates` meets its contract. The loop's invariant: the lists are some sums with the first k gates added, which were those that
 -- came in with all gates added. Assumes nothing.
-use mathlib.Core.Path.{refl}
 use Prim.Native.Nat.{_-_, _≤_}
 use native.Mathlib.Omega.{arith}
 use lib.ListN.{length}

@@ -1,7 +1,7 @@
 -- `group_sums::undo::take_out_rays` meets its contract. The loop's invariant: the sums are some sums with the gates of the first rays added, which
 -- were those that came in with the gates of all of them added. Assumes nothing.
-use mathlib.Core.Path.{_≡_, refl, ap, _∙_}
-use Prim.Native.Nat.{ℕ, _+_, _*_, _-_, _≤_, _<_}
+use mathlib.Core.Path.{_≡_, refl, _∙_}
+use Prim.Native.Nat.{_*_, _-_, _≤_}
 use native.Mathlib.Omega.{arith}
 use lib.ListN.{length}
 use Rattle.group_sums.proofs.GroupTurn.{ray-end, next-start, no-rays, groupLedger, RaysUndone, none-undone, all-undone, undone-room, last-added, last-undone}

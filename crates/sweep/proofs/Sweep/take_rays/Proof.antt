@@ -1,6 +1,6 @@
 -- `sweep::Sweep::take_rays` meets its contract: a refused group leaves the lists, an accepted one is taken whole. Assumes nothing.
-use mathlib.Core.Path.{_≡_, refl, sym, ap, _∙_}
-use Prim.Native.Nat.{ℕ, _+_, _≤_}
+use mathlib.Core.Path.{_≡_, refl, sym, _∙_}
+use Prim.Native.Nat.{ℕ}
 use native.Mathlib.Omega.{arith}
 use borrow.Author.Tests.{not-true, not-false}
 use Rattle.refusal.specs.Answer.{answered, afterwards}
@@ -39,10 +39,12 @@ take-refusal-requires c κs = search needs
 returns : tie.Need-returns
 unfolding sweptAnswer raysRefusal takeChecks
 returns c = let s = c .before .before .before .before .before .before .before .before .before .before .before .before in
+    let take-refusal-call = c .before .take-refusal in
+    let if1-call = c .if1 in
     let sweep = s .args .self in
-    let is : c .before .take-refusal .result ≡ checks s = c .before .take-refusal .ensures ∙ rw (c .before .before .before .azimuths-accepted .ensures, c .before .before .qualities-accepted .ensures) in
-    let number = by-checks (sweep .head) (sweep .closed) (sweep .taken) (group s) (lists s) is (c .if1 .taken) in
-    let wrong : raysRefusal sweep (group s) (lists s) ≡ 0 → ⊥ = λ e. c .if1 .taken (number ∙ e) in
+    let is : take-refusal-call .result ≡ checks s = take-refusal-call .ensures ∙ rw (c .before .before .before .azimuths-accepted .ensures, c .before .before .qualities-accepted .ensures) in
+    let number = by-checks (sweep .head) (sweep .closed) (sweep .taken) (group s) (lists s) is (if1-call .taken) in
+    let wrong : raysRefusal sweep (group s) (lists s) ≡ 0 → ⊥ = λ e. if1-call .taken (number ∙ e) in
     record { the-answer = rw number (is-refused _ _ wrong); the-lists = kept _ _ _ wrong }
 
 accepted-take-requires : tie.Need-accepted-take-requires

@@ -14,18 +14,21 @@ returns c = rw (c .if1 .taken)
 
 returns-2 : tie.Need-returns-2
 unfolding stateNumber firstRefusal
-returns-2 c = let a = c .before .before .before .args in rw (c .before .before .if1 .left, lt-leb (a .taken + a .more) (a .head .rays) (omega arith))
+returns-2 c = let a = c .before .before .before .args in
+    rw (c .before .before .if1 .left, lt-leb (a .taken + a .more) (a .head .rays) (omega arith))
 
 cast-if3 : tie.Need-cast-if3
 cast-if3 c = search needs
 
 returns-3 : tie.Need-returns-3
 unfolding stateNumber firstRefusal
-returns-3 c = let a = c .before .before .before .before .before .args in rw (c .before .before .before .before .if1 .left, lt-leb (a .taken + a .more) (a .head .rays) (omega arith))
+returns-3 c = let a = c .before .before .before .before .before .args in
+    rw (c .before .before .before .before .if1 .left, lt-leb (a .taken + a .more) (a .head .rays) (omega arith))
 
 returns-4 : tie.Need-returns-4
 unfolding stateNumber firstRefusal
-returns-4 c = let a = c .before .before .before .before .before .args in rw (c .before .before .before .before .if1 .left, le-leb (a .taken + a .more) (a .head .rays) (omega arith))
+returns-4 c = let a = c .before .before .before .before .before .args in
+    rw (c .before .before .before .before .if1 .left, le-leb (a .taken + a .more) (a .head .rays) (omega arith))
 
 pub state-refusal-spec : {M : Type 1} → statement M
 state-refusal-spec = tie.close (tie.spec returns returns-2 cast-if3 returns-3 returns-4)

@@ -1,11 +1,10 @@
 -- `sweep_checks::refusal_numbers::take_refusal` meets its contract. Assumes nothing.
-use mathlib.Core.Path.{_≡_, sym, _∙_}
-use Prim.Native.Nat.{_≤_}
+use mathlib.Core.Path.{sym, _∙_}
 use native.Mathlib.Omega.{arith}
 use borrow.Author.Tests.{not-true, not-false}
 use Rattle.refusal.proofs.Then.{then-kept, then-next}
 use Rattle.sweep_checks.specs.SweepNumbers.{takeNumber}
-use Rattle.sweep_checks.proofs.PassedState.{PassedState, passed-state}
+use Rattle.sweep_checks.proofs.PassedState.{passed-state}
 use borrow.Author.Needs.{needs}
 use Rattle.sweep_checks.proofs.refusal_numbers.take_refusal.Statement.{statement}
 use Rattle.sweep_checks.proofs.refusal_numbers.take_refusal.Tie as tie

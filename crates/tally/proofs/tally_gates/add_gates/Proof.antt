@@ -51,8 +51,8 @@ loop-less : tie.Need-loop-less Inv-loop μ-loop
 loop-less c = search needs
 
 loop-again : tie.Need-loop-again Inv-loop μ-loop
-loop-again c = let l = c .before .before .before .before .before .loop .inv in
-    let p = c .before .before .before .before .before .before .before .before .before .before .before .before .pre in
+loop-again c = let p = c .before .before .before .before .before .before .before .before .before .before .before .before .pre in
+    let l = c .before .before .before .before .before .loop .inv in
     (search needs, no-cell (l .1) (omega arith), no-cell (l .2) (omega (arith, p .quality-sums-length)), no-cell (l .3) (omega (arith, p .value-sums-length)))
 
 add-k-2 : tie.Need-add-k-2 Inv-loop μ-loop
@@ -101,8 +101,8 @@ same-length-3 c = search needs
 
 returns : tie.Need-returns Inv-loop μ-loop
 unfolding addedFirst addedSums
-returns c = let l = c .before .before .before .before .before .before .before .before .before .before .before .before .loop .inv in
-    let p = c .before .before .before .before .before .before .before .before .before .before .before .before .before .before .before .before .before .before .before .pre in
+returns c = let p = c .before .before .before .before .before .before .before .before .before .before .before .before .before .before .before .before .before .before .before .pre in
+    let l = c .before .before .before .before .before .before .before .before .before .before .before .before .loop .inv in
     let m = c .before .before .before .before .before .before .if2 .left in
     let here = c .before .before .before .before .before .before .before .before .before .before .before .loop-test .taken in
     let none = no-room _ _ _ _ _ _ (c .before .has-room .ensures) (c .if3 .taken) (none-for-all (l .1) (omega arith) m refl here) (none-for-all (l .2) (omega (arith, p .quality-sums-length)) m refl here) (none-for-all (l .3) (omega (arith, p .value-sums-length)) m (c .before .before .before .before .before .weigh .ensures) here) in
@@ -167,8 +167,8 @@ loop-less-3 : tie.Need-loop-less-3 Inv-loop μ-loop
 loop-less-3 c = search needs
 
 loop-again-3 : tie.Need-loop-again-3 Inv-loop μ-loop
-loop-again-3 c = let l = c .before .before .before .before .before .before .before .before .before .before .before .before .before .before .before .loop .inv in
-    let p = c .before .before .before .before .before .before .before .before .before .before .before .before .before .before .before .before .before .before .before .before .before .before .pre in
+loop-again-3 c = let p = c .before .before .before .before .before .before .before .before .before .before .before .before .before .before .before .before .before .before .before .before .before .before .pre in
+    let l = c .before .before .before .before .before .before .before .before .before .before .before .before .before .before .before .loop .inv in
     let m = c .before .before .before .before .before .before .before .before .before .if2 .left in
     let enough = room (c .before .before .before .before .has-room .ensures) (c .before .before .before .if3 .left) in (
       search needs,

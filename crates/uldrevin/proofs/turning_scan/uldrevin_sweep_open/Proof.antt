@@ -1,5 +1,5 @@
 -- `uldrevin::turning_scan::uldrevin_sweep_open` meets its contract, which is that of `sweep::Sweep::open`. Assumes nothing.
-use mathlib.Core.Path.{_≡_, refl, ap, _∙_}
+use mathlib.Core.Path.{ap, _∙_}
 use Rattle.refusal.specs.Answer.{numberIn}
 use Rattle.refusal.proofs.AnswerLaws.{number-in}
 use Rattle.c_sweep.specs.SweepStruct.{sweepLeft}
@@ -27,10 +27,11 @@ same-length-3 : tie.Need-same-length-3
 same-length-3 c = search needs
 
 returns : tie.Need-returns
-returns c = let told = rw (c .before .before .before .before .before .before .before .before .before .before .before .before .head-of .ensures) at (c .before .before .before .before .before .before .before .before .«open» .ensures) in
+returns c = let answer-sweep-call = c .answer-sweep in
+    let told = rw (c .before .before .before .before .before .before .before .before .before .before .before .before .head-of .ensures) at (c .before .before .before .before .before .before .before .before .«open» .ensures) in
     record {
-      the-number = c .answer-sweep .ensures .0 ∙ ap numberIn (told .the-answer) ∙ number-in _ _;
-      the-lent = (λ i. record { sweep = (c .answer-sweep .ensures .1 ∙ ap (sweepLeft _) (told .the-answer) ∙ sweep-left _ _ _) i; lists = told .the-sums i }) ∙ both-left _ _ _;
+      the-number = answer-sweep-call .ensures .0 ∙ ap numberIn (told .the-answer) ∙ number-in _ _;
+      the-lent = (λ i. record { sweep = (answer-sweep-call .ensures .1 ∙ ap (sweepLeft _) (told .the-answer) ∙ sweep-left _ _ _) i; lists = told .the-sums i }) ∙ both-left _ _ _;
     }
 
 pub uldrevin-sweep-open-spec : {M : Type 1} → statement M
