@@ -2,15 +2,15 @@
 use group_sums::add_rays;
 use scan::ScanHead;
 use scan_ledger::scan_ledger;
+ghost use mathlib.Core.Bool.{false};
 ghost use mathlib.Core.Path.{_≡_};
 ghost use Rattle.accepted_take.specs.RayGroup.{groupHeld, rayListsHeld, lentRayLists};
 ghost use Rattle.accepted_take.specs.TakenLists.{takeChecks, TakesGroup};
 
 // The ledger may not be written before the group is known to fit, so each ray's entries are worked out into an array first, and again for the
-// ledger. Says whether the group fits. For our own crates: they have tested the state, the rays and the lengths of the lists.
+// ledger. Says whether the group fits. For our own crates: they have tested the state, which is not closed, the rays and the lengths of the lists.
 pub fn accepted_take(
     head: ScanHead,
-    closed: bool,
     taken: u32,
     azimuths: &[u32],
     values: &[u16],
@@ -20,7 +20,7 @@ pub fn accepted_take(
     quality_sums: &mut [u32],
     value_sums: &mut [u64],
 ) -> bool
-    requires { ⌜ takeChecks head closed taken (groupHeld azimuths values qualities) (rayListsHeld ledger counts «quality_sums» «value_sums») ≡ 0 ⌝ }
+    requires { ⌜ takeChecks head false taken (groupHeld azimuths values qualities) (rayListsHeld ledger counts «quality_sums» «value_sums») ≡ 0 ⌝ }
     ensures { λ r. ⌜ TakesGroup head taken (groupHeld (azimuths .entry) (values .entry) (qualities .entry)) (lentRayLists ledger counts «quality_sums» «value_sums») r ⌝ }
 {
     let site = head.site;

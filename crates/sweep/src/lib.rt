@@ -94,7 +94,6 @@ impl Sweep {
         }
         if !accepted_take(
             head,
-            self.closed,
             self.taken,
             azimuths,
             values,

@@ -1,4 +1,5 @@
 -- `accepted_take::accepted_take` meets its contract: the sums of all rays or none, then the ledger. Assumes nothing.
+use mathlib.Core.Bool.{false}
 use mathlib.Core.Path.{refl, sym, ap, _∙_}
 use Prim.Native.Nat.{_*_}
 use native.Mathlib.Nat.{mul-le-mul}
@@ -13,7 +14,7 @@ use Rattle.accepted_take.proofs.accepted_take.Statement.{statement}
 use Rattle.accepted_take.proofs.accepted_take.Tie as tie
 
 -- the group that came in
-good : (s : tie.Start) → let a = s .args in AcceptedGroup (a .head) (a .closed) (a .taken) (groupHeld (a .azimuths) (a .values) (a .qualities)) (rayListsHeld (a .ledger) (a .counts) (a .quality-sums) (a .value-sums))
+good : (s : tie.Start) → let a = s .args in AcceptedGroup (a .head) false (a .taken) (groupHeld (a .azimuths) (a .values) (a .qualities)) (rayListsHeld (a .ledger) (a .counts) (a .quality-sums) (a .value-sums))
 good s = accepted-group _ _ _ _ _ (s .pre)
 
 cast-gates : tie.Need-cast-gates

@@ -49,7 +49,9 @@ returns c = let s = c .before .before .before .before .before .before .before .b
 
 accepted-take-requires : tie.Need-accepted-take-requires
 unfolding takeChecks
-accepted-take-requires c κs = sym (c .before .before .before .before .before .take-refusal .ensures ∙ rw (c .before .before .before .before .before .before .before .azimuths-accepted .ensures, c .before .before .before .before .before .before .qualities-accepted .ensures)) ∙ c .before .before .before .before .if1 .left
+accepted-take-requires c κs = let s = c .before .before .before .before .before .before .before .before .before .before .before .before .before .before .before .before in
+    let zero : checks s ≡ 0 = sym (c .before .before .before .before .before .take-refusal .ensures ∙ rw (c .before .before .before .before .before .before .before .azimuths-accepted .ensures, c .before .before .before .before .before .before .qualities-accepted .ensures)) ∙ c .before .before .before .before .if1 .left in
+    rw (good s zero .open-yet) at zero
 
 same-length : tie.Need-same-length
 same-length c = search needs
