@@ -1,2 +1,4 @@
-pub mod GroupTurn
 pub mod GroupFits
+pub mod RayOfGroup
+pub mod RaysUndone
+pub mod RaysSoFar

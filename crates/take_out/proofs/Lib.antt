@@ -1,2 +1,3 @@
 pub mod TakeOutTurn
+pub mod SumsUndone
 pub mod TakenOut

@@ -1,15 +1,11 @@
--- A turn of the loop that takes gates out: for one list, over the share that a gate gives to its cell; then for the three lists. Assumes nothing.
-use mathlib.Core.Path.{_≡_, refl, sym, ap, _∙_}
+-- A turn of the loop that takes gates out, for one list, over the share that a gate gives to its cell. Assumes nothing.
+use mathlib.Core.Path.{_≡_, sym, ap, _∙_}
 use mathlib.Core.List.{List}
 use Prim.Native.Nat.{ℕ, _+_, _-_, _<_, _≤_}
 use native.Mathlib.Omega.{arith}
 use lib.ListN.{length, length-set, set, getD}
 use Rattle.arithmetic.proofs.Places.{table-set}
-use Rattle.tally.specs.declared.gates.Weighting.{Weighting}
-use Rattle.tally.specs.Gates.{weighed}
-use Rattle.tally.specs.LentSums.{Sums}
-use Rattle.tally.specs.Tally.{sumOver, added, addedFirst, addedSums}
-use Rattle.take_out.specs.TakeOutRoom.{AddedBefore}
+use Rattle.tally.specs.Tally.{sumOver, added}
 use Rattle.tally.proofs.TallyTurn.{added-length, added-at, one-more, none-added, to-its-cell, to-no-other, nothing-added, given-outside, given-unmeasured}
 
 -- the list is what it was, with the sums over the first n gates added
@@ -17,7 +13,7 @@ pub record Holding (ledger values qualities : List ℕ) (share : ℕ → ℕ →
   pub cells-length : length l ≡ length before
   pub cell-sums : l ≡ added (sumOver ledger values qualities share n) before
 
-holding : (ledger values qualities : List ℕ) (share : ℕ → ℕ → ℕ) (n : ℕ) (before l : List ℕ) → l ≡ added (sumOver ledger values qualities share n) before → Holding ledger values qualities share n before l
+pub holding : (ledger values qualities : List ℕ) (share : ℕ → ℕ → ℕ) (n : ℕ) (before l : List ℕ) → l ≡ added (sumOver ledger values qualities share n) before → Holding ledger values qualities share n before l
 holding ledger values qualities share n before l e = record { cells-length = ap length e ∙ added-length _ before; cell-sums = e }
 
 -- gate k is the last of the first n
@@ -25,13 +21,13 @@ module _ {ledger values qualities : List ℕ} {share : ℕ → ℕ → ℕ} {n :
   held : l ≡ added (sumOver ledger values qualities share (k + 1)) before
   held = s .cell-sums ∙ rw last
 
-  out-no-cell : length before ≤ getD ledger k 0 → Holding ledger values qualities share k before l
+  pub out-no-cell : length before ≤ getD ledger k 0 → Holding ledger values qualities share k before l
   out-no-cell h = record {
     cells-length = s .cells-length;
     cell-sums = held ∙ sym (nothing-added ledger values qualities share k before (given-outside ledger values qualities share k (length before) h));
   }
 
-  out-unmeasured : getD values k 0 ≡ 65535 → Holding ledger values qualities share k before l
+  pub out-unmeasured : getD values k 0 ≡ 65535 → Holding ledger values qualities share k before l
   out-unmeasured h = record {
     cells-length = s .cells-length;
     cell-sums = held ∙ sym (nothing-added ledger values qualities share k before (λ cell i. given-unmeasured ledger values qualities share k h cell));
@@ -45,10 +41,10 @@ module _ {ledger values qualities : List ℕ} {share : ℕ → ℕ → ℕ} {n :
         omega (arith, at, one-more ledger values qualities share k cell, to-its-cell ledger values qualities share k m, p)
 
     -- its share is there to be taken out
-    share-there : x ≤ getD l (getD ledger k 0) 0
+    pub share-there : x ≤ getD l (getD ledger k 0) 0
     share-there = omega (arith, cell-holds)
 
-    out-measured : Holding ledger values qualities share k before (set l (getD ledger k 0) (getD l (getD ledger k 0) 0 - x))
+    pub out-measured : Holding ledger values qualities share k before (set l (getD ledger k 0) (getD l (getD ledger k 0) 0 - x))
     unfolding added
     out-measured =
         let cell = getD ledger k 0 in
@@ -63,122 +59,5 @@ module _ {ledger values qualities : List ℕ} {share : ℕ → ℕ → ℕ} {n :
         }
 
 -- all gates are out
-all-out : {ledger values qualities : List ℕ} {share : ℕ → ℕ → ℕ} {n : ℕ} {before l : List ℕ} → Holding ledger values qualities share n before l → n ≡ 0 → l ≡ before
+pub all-out : {ledger values qualities : List ℕ} {share : ℕ → ℕ → ℕ} {n : ℕ} {before l : List ℕ} → Holding ledger values qualities share n before l → n ≡ 0 → l ≡ before
 all-out {ledger} {values} {qualities} {share} {before = before} s e = s .cell-sums ∙ rw e (sym (none-added ledger values qualities share before))
-
--- ---- the three lists together
-
--- some sums, with all gates added, are those that came in; with the first k gates added, they are those that are left
-pub record Undone (weighting : Weighting) (ledger values qualities : List ℕ) (k : ℕ) (sums₀ sums : Sums) : Type 0 where
-  pub before : Sums
-  pub added-then : sums₀ ≡ addedSums weighting ledger values qualities before
-  pub counts-held : Holding ledger values qualities (λ value quality. 1) k (before .counts) (sums .counts)
-  pub quality-sums-held : Holding ledger values qualities (λ value quality. quality) k (before .qualitySums) (sums .qualitySums)
-  pub value-sums-held : Holding ledger values qualities (weighed weighting) k (before .valueSums) (sums .valueSums)
-  -- a place for each cell in every list
-  pub cells-length : length (before .counts) ≡ length (sums .counts)
-  pub quality-cells-length : length (before .qualitySums) ≡ length (sums .counts)
-  pub value-cells-length : length (before .valueSums) ≡ length (sums .counts)
-  pub quality-sums-length : length (sums .qualitySums) ≡ length (sums .counts)
-  pub value-sums-length : length (sums .valueSums) ≡ length (sums .counts)
-  pub same-counts : length (sums .counts) ≡ length (sums₀ .counts)
-  pub same-quality-sums : length (sums .qualitySums) ≡ length (sums₀ .qualitySums)
-  pub same-value-sums : length (sums .valueSums) ≡ length (sums₀ .valueSums)
-
-module _ {weighting : Weighting} {ledger values qualities : List ℕ} where
-  pub undone-none : {sums₀ : Sums} → AddedBefore weighting ledger values qualities sums₀ → Undone weighting ledger values qualities (length ledger) sums₀ sums₀
-  unfolding addedSums addedFirst
-  undone-none {sums₀} p =
-      let e = p .added-then in
-      let c = holding ledger values qualities (λ value quality. 1) (length ledger) (p .before .counts) (sums₀ .counts) (ap (λ (s : Sums). s .counts) e) in
-      let q = holding ledger values qualities (λ value quality. quality) (length ledger) (p .before .qualitySums) (sums₀ .qualitySums) (ap (λ (s : Sums). s .qualitySums) e) in
-      let v = holding ledger values qualities (weighed weighting) (length ledger) (p .before .valueSums) (sums₀ .valueSums) (ap (λ (s : Sums). s .valueSums) e) in
-      let a = p .addable in
-      record {
-        before = p .before;
-        added-then = e;
-        counts-held = c;
-        quality-sums-held = q;
-        value-sums-held = v;
-        cells-length = sym (c .cells-length);
-        quality-cells-length = a .quality-sums-length ∙ sym (c .cells-length);
-        value-cells-length = a .value-sums-length ∙ sym (c .cells-length);
-        quality-sums-length = q .cells-length ∙ a .quality-sums-length ∙ sym (c .cells-length);
-        value-sums-length = v .cells-length ∙ a .value-sums-length ∙ sym (c .cells-length);
-        same-counts = refl;
-        same-quality-sums = refl;
-        same-value-sums = refl;
-      }
-
-  module _ {n : ℕ} {sums₀ sums : Sums} (u : Undone weighting ledger values qualities n sums₀ sums) where
-    -- gate k gave nothing
-    nothing-out : {k : ℕ} → Holding ledger values qualities (λ value quality. 1) k (u .before .counts) (sums .counts) → Holding ledger values qualities (λ value quality. quality) k (u .before .qualitySums) (sums .qualitySums) → Holding ledger values qualities (weighed weighting) k (u .before .valueSums) (sums .valueSums) → Undone weighting ledger values qualities k sums₀ sums
-    nothing-out c q v = record {
-      before = u .before;
-      added-then = u .added-then;
-      counts-held = c;
-      quality-sums-held = q;
-      value-sums-held = v;
-      cells-length = u .cells-length;
-      quality-cells-length = u .quality-cells-length;
-      value-cells-length = u .value-cells-length;
-      quality-sums-length = u .quality-sums-length;
-      value-sums-length = u .value-sums-length;
-      same-counts = u .same-counts;
-      same-quality-sums = u .same-quality-sums;
-      same-value-sums = u .same-value-sums;
-    }
-
-    module _ (k : ℕ) (last : n ≡ k + 1) where
-      pub undone-no-cell : length (sums .counts) ≤ getD ledger k 0 → Undone weighting ledger values qualities k sums₀ sums
-      undone-no-cell h =
-          nothing-out
-          (out-no-cell (u .counts-held) k last (omega (arith, u .cells-length)))
-          (out-no-cell (u .quality-sums-held) k last (omega (arith, u .quality-cells-length)))
-          (out-no-cell (u .value-sums-held) k last (omega (arith, u .value-cells-length)))
-
-      pub undone-unmeasured : getD values k 0 ≡ 65535 → Undone weighting ledger values qualities k sums₀ sums
-      undone-unmeasured h =
-          nothing-out (out-unmeasured (u .counts-held) k last h) (out-unmeasured (u .quality-sums-held) k last h) (out-unmeasured (u .value-sums-held) k last h)
-
-      module _ (h : getD ledger k 0 < length (sums .counts)) (m : getD values k 0 ≡ 65535 → ⊥) where
-        pub count-there : 1 ≤ getD (sums .counts) (getD ledger k 0) 0
-        count-there = share-there (u .counts-held) k last (omega (arith, u .cells-length)) m refl
-
-        pub quality-there : getD qualities k 0 ≤ getD (sums .qualitySums) (getD ledger k 0) 0
-        quality-there = share-there (u .quality-sums-held) k last (omega (arith, u .quality-cells-length)) m refl
-
-        pub value-there : weighed weighting (getD values k 0) (getD qualities k 0) ≤ getD (sums .valueSums) (getD ledger k 0) 0
-        value-there = share-there (u .value-sums-held) k last (omega (arith, u .value-cells-length)) m refl
-
-        pub undone-measured : {x : ℕ} → x ≡ weighed weighting (getD values k 0) (getD qualities k 0) → let cell = getD ledger k 0 in Undone weighting ledger values qualities k sums₀ (record { counts = set (sums .counts) cell (getD (sums .counts) cell 0 - 1); qualitySums = set (sums .qualitySums) cell (getD (sums .qualitySums) cell 0 - getD qualities k 0); valueSums = set (sums .valueSums) cell (getD (sums .valueSums) cell 0 - x) })
-        undone-measured {x} p =
-            let cell = getD ledger k 0 in
-            let counts = length-set (sums .counts) cell (getD (sums .counts) cell 0 - 1) in
-            let quality-sums = length-set (sums .qualitySums) cell (getD (sums .qualitySums) cell 0 - getD qualities k 0) in
-            let value-sums = length-set (sums .valueSums) cell (getD (sums .valueSums) cell 0 - x) in
-            record {
-              before = u .before;
-              added-then = u .added-then;
-              counts-held = out-measured (u .counts-held) k last (omega (arith, u .cells-length)) m refl;
-              quality-sums-held = out-measured (u .quality-sums-held) k last (omega (arith, u .quality-cells-length)) m refl;
-              value-sums-held = out-measured (u .value-sums-held) k last (omega (arith, u .value-cells-length)) m p;
-              cells-length = u .cells-length ∙ sym counts;
-              quality-cells-length = u .quality-cells-length ∙ sym counts;
-              value-cells-length = u .value-cells-length ∙ sym counts;
-              quality-sums-length = quality-sums ∙ u .quality-sums-length ∙ sym counts;
-              value-sums-length = value-sums ∙ u .value-sums-length ∙ sym counts;
-              same-counts = counts ∙ u .same-counts;
-              same-quality-sums = quality-sums ∙ u .same-quality-sums;
-              same-value-sums = value-sums ∙ u .same-value-sums;
-            }
-
-    -- all gates are out
-    pub undone-all : n ≡ 0 → sums₀ ≡ addedSums weighting ledger values qualities sums
-    undone-all e =
-        u .added-then
-        ∙ ap (addedSums weighting ledger values qualities) (λ i. record {
-          counts = sym (all-out (u .counts-held) e) i;
-          qualitySums = sym (all-out (u .quality-sums-held) e) i;
-          valueSums = sym (all-out (u .value-sums-held) e) i;
-        })

@@ -6,7 +6,8 @@ use native.Mathlib.Nat.{zero-mul, le-antisymm}
 use native.Mathlib.Omega.{arith}
 use borrow.Author.Tests.{not-true, not-false}
 use lib.ListN.{length}
-use Rattle.group_sums.proofs.GroupTurn.{ray-end, next-start, groupLedger, group-length, same-room, RaysSoFar, none-yet, all-rays, no-ray, added-room, ray-added, ray-left, none-fit}
+use Rattle.group_sums.proofs.RayOfGroup.{ray-end, next-start, groupLedger, group-length, same-room}
+use Rattle.group_sums.proofs.RaysSoFar.{RaysSoFar, none-yet, all-rays, no-ray, added-room, ray-added, ray-left, none-fit}
 use borrow.Author.Needs.{needs}
 use Rattle.group_sums.proofs.add_rays.Statement.{statement}
 use Rattle.group_sums.proofs.add_rays.Tie as tie

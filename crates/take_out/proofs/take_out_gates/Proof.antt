@@ -3,7 +3,7 @@
 use Prim.Native.Nat.{_-_, _≤_}
 use native.Mathlib.Omega.{arith}
 use lib.ListN.{length}
-use Rattle.take_out.proofs.TakeOutTurn.{Undone, undone-none, undone-no-cell, undone-unmeasured, count-there, quality-there, value-there, undone-measured, undone-all}
+use Rattle.take_out.proofs.SumsUndone.{Undone, undone-none, undone-no-cell, undone-unmeasured, count-there, quality-there, value-there, undone-measured, undone-all}
 use borrow.Author.Needs.{needs}
 use Rattle.take_out.proofs.take_out_gates.Statement.{statement}
 use Rattle.take_out.proofs.take_out_gates.Tie as tie

@@ -4,7 +4,8 @@ use mathlib.Core.Path.{_≡_, refl, _∙_}
 use Prim.Native.Nat.{_*_, _-_, _≤_}
 use native.Mathlib.Omega.{arith}
 use lib.ListN.{length}
-use Rattle.group_sums.proofs.GroupTurn.{ray-end, next-start, no-rays, groupLedger, RaysUndone, none-undone, all-undone, undone-room, last-added, last-undone}
+use Rattle.group_sums.proofs.RayOfGroup.{ray-end, next-start, no-rays, groupLedger}
+use Rattle.group_sums.proofs.RaysUndone.{RaysUndone, none-undone, all-undone, undone-room, last-added, last-undone}
 use borrow.Author.Needs.{needs}
 use Rattle.group_sums.proofs.undo.take_out_rays.Statement.{statement}
 use Rattle.group_sums.proofs.undo.take_out_rays.Tie as tie
