@@ -52,13 +52,19 @@ value-most c k = omega (arith, c .before .before .before .before .before .before
 -- ---- what each step leaves
 
 abbrev sums-cleared : tie.After-clear-sums → Sums
-sums-cleared c = let last = c .clear-sums .last in record { counts = last .0; qualitySums = last .1 .0; valueSums = last .1 .1 .0 }
+sums-cleared c =
+    let last = c .clear-sums .last in
+    record { counts = last .0; qualitySums = last .1 .0; valueSums = last .1 .1 .0 }
 
 abbrev sums-added : tie.After-add-gates → Sums
-sums-added c = let last = c .add-gates .last .1 .1 .1 .1 in record { counts = last .0; qualitySums = last .1 .0; valueSums = last .1 .1 .0 }
+sums-added c =
+    let last = c .add-gates .last .1 .1 .1 .1 in
+    record { counts = last .0; qualitySums = last .1 .0; valueSums = last .1 .1 .0 }
 
 abbrev cells-published : tie.After-publish → Cells
-cells-published c = let last = c .publish .last .1 .1 .1 .1 in record { means = last .0; qualities = last .1 .0 }
+cells-published c =
+    let last = c .publish .last .1 .1 .1 .1 in
+    record { means = last .0; qualities = last .1 .0 }
 
 ledger-written : (c : tie.After-scan-ledger) → c .scan-ledger .last .1 .1 .1 .1 .1 .0 ≡ filledLists (scan (at-start (at-survey c))) .ledger
 ledger-written c = rw (at-survey c .survey-of .ensures) at (c .scan-ledger .ensures) ∙ ledger-is (good (at-start (at-survey c)))

@@ -21,7 +21,9 @@ cast-gates : tie.Need-cast-gates
 cast-gates c = search needs
 
 survey-of-requires : tie.Need-survey-of-requires
-survey-of-requires c κs = let g = good (c .before .before .before .before .before .before .before .before .before) in (g .site, g .grid)
+survey-of-requires c κs =
+    let g = good (c .before .before .before .before .before .before .before .before .before) in
+    (g .site, g .grid)
 
 array-borrow-prefix-entries : tie.Need-array-borrow-prefix-entries
 array-borrow-prefix-entries c = omega (arith, good (c .before .before .before .before .before .before .before .before .before .before) .gates-most)
@@ -30,8 +32,9 @@ slice-aggregate-add-rays : tie.Need-slice-aggregate-add-rays
 slice-aggregate-add-rays c = sym (length-take-le _ _ (array-borrow-prefix-entries (c .before)))
 
 add-rays-requires : tie.Need-add-rays-requires
-add-rays-requires c κs = let s = c .before .before .before .before .before .before .before .before .before .before .before .before .before .before in
-    (rw (c .before .before .before .before .survey-of .ensures) (is-surveyed (good (s))), addable (good (s)) (length-take-le _ _ (good (s) .gates-most)))
+add-rays-requires c κs =
+    let s = c .before .before .before .before .before .before .before .before .before .before .before .before .before .before in
+    (rw (c .before .before .before .before .survey-of .ensures) (is-surveyed (good s)), addable (good s) (length-take-le _ _ (good s .gates-most)))
 
 same-length : tie.Need-same-length
 same-length c = search needs
@@ -43,14 +46,19 @@ same-length-3 : tie.Need-same-length-3
 same-length-3 c = search needs
 
 returns : tie.Need-returns
-returns c = let g = good (c .before .before .before .before .before .before .before .before .before .before .before .before .before .before .before .before .before .before .before .before .before .before .before) in group-left g (ledger-is g _ _ (c .before .before .before .before .before .before .before .before .before .before .before .before .before .survey-of .ensures) (length-take-le _ _ (g .gates-most))) (c .before .before .before .before .before .before .before .before .add-rays .ensures) (not-true _ (c .if1 .taken))
+returns c =
+    let g = good (c .before .before .before .before .before .before .before .before .before .before .before .before .before .before .before .before .before .before .before .before .before .before .before) in
+    group-left g (ledger-is g _ _ (c .before .before .before .before .before .before .before .before .before .before .before .before .before .survey-of .ensures) (length-take-le _ _ (g .gates-most))) (c .before .before .before .before .before .before .before .before .add-rays .ensures) (not-true _ (c .if1 .taken))
 
 mul-scan-ledger : tie.Need-mul-scan-ledger
-mul-scan-ledger c = let g = good (c .before .before .before .before .before .before .before .before .before .before .before .before .before .before .before .before .before .before .before .before .before .before .before .before) in fits-unsigned {m = 720 * 1000} (mul-le-mul {n₂ = 720} {m₂ = 1000} (omega (arith, g .rays-most, g .rays-limit)) (g .gates-most)) tt
+mul-scan-ledger c =
+    let g = good (c .before .before .before .before .before .before .before .before .before .before .before .before .before .before .before .before .before .before .before .before .before .before .before .before) in
+    fits-unsigned {m = 720 * 1000} (mul-le-mul {n₂ = 720} {m₂ = 1000} (omega (arith, g .rays-most, g .rays-limit)) (g .gates-most)) tt
 
 scan-ledger-requires : tie.Need-scan-ledger-requires
-scan-ledger-requires c κs = let s = c .before .before .before .before .before .before .before .before .before .before .before .before .before .before .before .before .before .before .before .before .before .before .before .before in
-    (rw (c .before .before .before .before .before .before .before .before .before .before .before .before .before .before .survey-of .ensures) (is-surveyed (good (s))), rays-span (good (s)) refl)
+scan-ledger-requires c κs =
+    let s = c .before .before .before .before .before .before .before .before .before .before .before .before .before .before .before .before .before .before .before .before .before .before .before .before in
+    (rw (c .before .before .before .before .before .before .before .before .before .before .before .before .before .before .survey-of .ensures) (is-surveyed (good s)), rays-span (good s) refl)
 
 same-length-4 : tie.Need-same-length-4
 same-length-4 c = search needs
@@ -65,9 +73,10 @@ same-length-7 : tie.Need-same-length-7
 same-length-7 c = search needs
 
 returns-2 : tie.Need-returns-2
-returns-2 c = let s = c .before .before .before .before .before .before .before .before .before .before .before .before .before .before .before .before .before .before .before .before .before .before .before .before .before .before .before in
+returns-2 c =
+    let s = c .before .before .before .before .before .before .before .before .before .before .before .before .before .before .before .before .before .before .before .before .before .before .before .before .before .before .before in
     let survey-of-call = c .before .before .before .before .before .before .before .before .before .before .before .before .before .before .before .before .before .survey-of in
-    let g = good (s) in
+    let g = good s in
     let a = s .args in
     group-taken g (ledger-is g _ _ (survey-of-call .ensures) (length-take-le _ _ (g .gates-most))) (c .before .before .before .before .before .before .before .before .before .before .before .before .add-rays .ensures) (not-false _ (c .before .before .before .before .if1 .left)) (c .before .before .scan-ledger .ensures ∙ ap (sets (a .ledger .now) (a .taken * a .head .gates)) (ledger-is g _ _ (survey-of-call .ensures) refl))
 

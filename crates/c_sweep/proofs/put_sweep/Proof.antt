@@ -62,7 +62,8 @@ closed-number-requires c κs = search needs
 
 returns : tie.Need-returns
 unfolding sweepNumbers headNumbers
-returns c = let put-head-call = c .before .before .before .before .before .before .before .before .before .before .before .before .before .before .before .before .put-head in
+returns c =
+    let put-head-call = c .before .before .before .before .before .before .before .before .before .before .before .before .before .before .before .before .put-head in
     let closed-number-call = c .before .closed-number in
     let words = put-head-call .last .1 .0 in
     let written : words ≡ headNumbers (c .before .before .before .before .before .before .before .before .before .before .before .before .before .before .before .before .before .before .before .args .sweep .head) = put-head-call .ensures in

@@ -65,7 +65,8 @@ element-copy-out-t41-2 c = search needs
 
 returns : tie.Need-returns
 unfolding sweepOf headOf siteAt gridAt
-returns c = let numbers = c .before .before .before .before .before .before .before .before .before .before .before .before .before .before .before .before .before .before .args .numbers .now in
+returns c =
+    let numbers = c .before .before .before .before .before .before .before .before .before .before .before .before .before .before .before .before .before .before .args .numbers .now in
     λ i. record {
       head = (c .before .before .before .head-of .ensures ∙ ap headOf (word-back (getD numbers 0 (pos 0)) (c .before .before .before .before .before .before .before .before .before .before .before .before .before .before .before .before .before .unsigned32-arg .given) also word-back (getD numbers 1 (pos 0)) (c .before .before .before .before .before .before .before .before .before .before .before .before .before .before .before .before .t8 .given) also word-back (getD numbers 2 (pos 0)) (c .before .before .before .before .before .before .before .before .before .before .before .before .before .before .before .t11 .given) also word-back (getD numbers 3 (pos 0)) (c .before .before .before .before .before .before .before .before .before .before .before .before .before .before .t14 .given) also word-back (getD numbers 4 (pos 0)) (c .before .before .before .before .before .before .before .before .before .before .before .before .before .t17 .given) also word-back (getD numbers 5 (pos 0)) (c .before .before .before .before .before .before .before .before .before .before .before .before .t20 .given) also word-back (getD numbers 6 (pos 0)) (c .before .before .before .before .before .before .before .before .before .before .before .t23 .given) also word-back (getD numbers 7 (pos 0)) (c .before .before .before .before .before .before .before .before .before .before .t26 .given) also word-back (getD numbers 8 (pos 0)) (c .before .before .before .before .before .before .before .before .before .t29 .given) also word-back (getD numbers 9 (pos 0)) (c .before .before .before .before .before .before .before .before .t32 .given) also word-back (getD numbers 10 (pos 0)) (c .before .before .before .before .before .before .before .t35 .given) also word-back (getD numbers 11 (pos 0)) (c .before .before .before .before .before .before .t38 .given) also word-back (getD numbers 12 (pos 0)) (c .before .before .before .before .before .t41 .given) also end)) i;
       taken = (c .before .unsigned32 .ensures ∙ ap unsigned32 (word-back (getD numbers 13 (pos 0)) (c .before .before .unsigned32-arg2 .given))) i;

@@ -27,7 +27,8 @@ loop-holds : tie.Need-loop-holds Inv-loop μ-loop
 loop-holds c = (search needs, sym (zero-mul _), refl, none-yet (λ cell. omega (arith, c .before .before .slice-known2 .given cell)) (λ cell. omega (arith, c .before .slice-known3 .given cell)) (λ cell. omega (arith, c .slice-known4 .given cell)))
 
 add-end : tie.Need-add-end Inv-loop μ-loop
-add-end c = let s = c .before .before .before .before .before .before .before .before .before in
+add-end c =
+    let s = c .before .before .before .before .before .before .before .before .before in
     let turn = c .before .loop in
     let a = s .args in omega (arith, ray-end (turn .ray) (length (a .azimuths .now)) (length (a .entries .now)) (c .loop-test .taken), turn .inv .1, s .pre .1 .values-length, s .good .1 .1 .1 .1 .1 .1 .0 .0)
 
@@ -38,7 +39,8 @@ shared-slice-read-add-ray : tie.Need-shared-slice-read-add-ray Inv-loop μ-loop
 shared-slice-read-add-ray c = search needs
 
 mul-add-ray-2 : tie.Need-mul-add-ray-2 Inv-loop μ-loop
-mul-add-ray-2 c = let s = c .before .before .before .before .before .before .before .before .before .before .before in
+mul-add-ray-2 c =
+    let s = c .before .before .before .before .before .before .before .before .before .before .before in
     let turn = c .before .before .before .loop in
     let a = s .args in omega (arith, ray-end (turn .ray) (length (a .azimuths .now)) (length (a .entries .now)) (c .before .before .loop-test .taken), turn .inv .1, s .pre .1 .values-length, s .good .1 .1 .1 .1 .1 .1 .0 .0, s .good .1 .1 .1 .1 .1 .1 .0 .1)
 
@@ -49,7 +51,8 @@ part-add-ray-start : tie.Need-part-add-ray-start Inv-loop μ-loop
 part-add-ray-start c = search needs
 
 part-add-ray-end : tie.Need-part-add-ray-end Inv-loop μ-loop
-part-add-ray-end c = let s = c .before .before .before .before .before .before .before .before .before .before .before in
+part-add-ray-end c =
+    let s = c .before .before .before .before .before .before .before .before .before .before .before in
     let turn = c .before .before .before .loop in
     let a = s .args in omega (arith, ray-end (turn .ray) (length (a .azimuths .now)) (length (a .entries .now)) (c .before .before .loop-test .taken), turn .inv .1, s .pre .1 .values-length)
 
@@ -60,17 +63,20 @@ part-add-ray-start-2 : tie.Need-part-add-ray-start-2 Inv-loop μ-loop
 part-add-ray-start-2 c = search needs
 
 part-add-ray-end-2 : tie.Need-part-add-ray-end-2 Inv-loop μ-loop
-part-add-ray-end-2 c = let s = c .before .before .before .before .before .before .before .before .before .before .before .before in
+part-add-ray-end-2 c =
+    let s = c .before .before .before .before .before .before .before .before .before .before .before .before in
     let turn = c .before .before .before .before .loop in
     let a = s .args in omega (arith, ray-end (turn .ray) (length (a .azimuths .now)) (length (a .entries .now)) (c .before .before .before .loop-test .taken), turn .inv .1, s .pre .1 .qualities-length)
 
 add-ray-requires : tie.Need-add-ray-requires Inv-loop μ-loop
-add-ray-requires c κs = let s = c .before .before .before .before .before .before .before .before .before .before .before .before .before .before .before .before in
+add-ray-requires c κs =
+    let s = c .before .before .before .before .before .before .before .before .before .before .before .before .before .before .before .before in
     let turn = c .before .before .before .before .before .before .before .before .loop in
     let a = s .args in (s .pre .0, added-room (a .survey) (a .first) (a .spacing) (length (a .entries .now)) (a .azimuths .now) (a .values .now) (a .qualities .now) (turn .ray) _ _ (c .before .before .before .before .before .before .before .loop-test .taken) (turn .inv .1) refl (turn .inv .3) (s .pre .1) refl (turn .inv .2))
 
 take-out-rays-requires : tie.Need-take-out-rays-requires Inv-loop μ-loop
-take-out-rays-requires c κs = let s = c .before .before .before .before .before .before .before .before .before .before .before .before .before .before .before .before .before .before .before .before .before .before .before .before .before .before .before .before .before .before in
+take-out-rays-requires c κs =
+    let s = c .before .before .before .before .before .before .before .before .before .before .before .before .before .before .before .before .before .before .before .before .before .before .before .before .before .before .before .before .before .before in
     let turn = c .before .before .before .before .before .before .before .before .before .before .before .before .before .before .before .before .before .before .before .before .before .before .loop in
     let add-ray-call = c .before .before .before .before .before .before .before .before .before .before .before .before .before .add-ray in
     let a = s .args in
@@ -92,7 +98,8 @@ same-length-4 : tie.Need-same-length-4 Inv-loop μ-loop
 same-length-4 c = c .before .before .before .before .before .before .before .before .take-out-rays .kept .1 .1 .1 .1 .1 .1 .1 .1 .1 .1 .1 .0 ∙ c .before .before .before .before .before .before .before .before .before .before .before .before .before .before .before .before .before .before .before .before .before .before .add-ray .kept .1 .1 .1 .1 .1 .1 .1 .1 .1 .1 .0 ∙ c .before .before .before .before .before .before .before .before .before .before .before .before .before .before .before .before .before .before .before .before .before .before .before .before .before .before .before .before .before .before .before .loop .inv .3 .same-value-sums
 
 returns : tie.Need-returns Inv-loop μ-loop
-returns c = let a = c .before .before .before .before .before .before .before .before .before .before .before .before .before .before .before .before .before .before .before .before .before .before .before .before .before .before .before .before .before .before .before .before .before .before .before .before .before .before .before .args in
+returns c =
+    let a = c .before .before .before .before .before .before .before .before .before .before .before .before .before .before .before .before .before .before .before .before .before .before .before .before .before .before .before .before .before .before .before .before .before .before .before .before .before .before .before .args in
     let turn = c .before .before .before .before .before .before .before .before .before .before .before .before .before .before .before .before .before .before .before .before .before .before .before .before .before .before .before .before .before .before .before .loop in
     let add-ray-call = c .before .before .before .before .before .before .before .before .before .before .before .before .before .before .before .before .before .before .before .before .before .before .add-ray in
     let loop-test-call = c .before .before .before .before .before .before .before .before .before .before .before .before .before .before .before .before .before .before .before .before .before .before .before .before .before .before .before .before .before .before .loop-test in
@@ -109,7 +116,8 @@ loop-less : tie.Need-loop-less Inv-loop μ-loop
 loop-less c = search needs
 
 loop-again : tie.Need-loop-again Inv-loop μ-loop
-loop-again c = let a = c .before .before .before .before .before .before .before .before .before .before .before .before .before .before .before .before .before .before .before .before .before .before .before .before .before .before .args in
+loop-again c =
+    let a = c .before .before .before .before .before .before .before .before .before .before .before .before .before .before .before .before .before .before .before .before .before .before .before .before .before .before .args in
     let turn = c .before .before .before .before .before .before .before .before .before .before .before .before .before .before .before .before .before .before .loop in
     let add-ray-call = c .before .before .before .before .before .before .before .before .before .add-ray in
     let l = turn .inv in
@@ -128,7 +136,8 @@ same-length-8 : tie.Need-same-length-8 Inv-loop μ-loop
 same-length-8 c = search needs
 
 returns-2 : tie.Need-returns-2 Inv-loop μ-loop
-returns-2 c = let a = c .before .before .before .before .before .before .before .before .before .args in
+returns-2 c =
+    let a = c .before .before .before .before .before .before .before .before .before .args in
     let l = c .before .loop .inv in
     all-rays (l .3) (l .1 ∙ ap (λ (n : ℕ). n * length (a .entries .now)) (le-antisymm (l .0) (c .loop-test .left)) ∙ sym (group-length (a .survey) (a .first) (a .spacing) (length (a .entries .now)) (a .azimuths .now)))
 

@@ -8,7 +8,8 @@ use Rattle.ray_sums.proofs.add_ray.Statement.{statement}
 use Rattle.ray_sums.proofs.add_ray.Tie as tie
 
 ray-ledger-requires : tie.Need-ray-ledger-requires
-ray-ledger-requires c κs = let asked = c .before .before .before .before .before .before .before .pre in
+ray-ledger-requires c κs =
+    let asked = c .before .before .before .before .before .before .before .pre in
     (asked .0, ray-span (asked .1))
 
 add-gates-requires : tie.Need-add-gates-requires
@@ -27,7 +28,8 @@ same-length-4 : tie.Need-same-length-4
 same-length-4 c = search needs
 
 returns : tie.Need-returns
-returns c = let a = c .before .before .before .before .before .before .before .before .before .before .before .before .before .before .before .before .before .before .before .before .before .before .args in
+returns c =
+    let a = c .before .before .before .before .before .before .before .before .before .before .before .before .before .before .before .before .before .before .before .before .before .before .args in
     let written = c .before .before .before .before .before .before .before .before .before .before .before .before .before .before .ray-ledger .ensures in
     all-of-them (c .before .before .before .before .before .before .before .add-gates .ensures) (is-ray (a .survey) (a .first) (a .spacing) (a .azimuth) (a .entries .now) written) (c .if1 .taken ∙ sym (same-gates (a .survey) (a .first) (a .spacing) (a .azimuth) (a .entries .now) written))
 
@@ -38,15 +40,18 @@ slice-aggregate-take-out-gates : tie.Need-slice-aggregate-take-out-gates
 slice-aggregate-take-out-gates c = sym (length-take-le _ _ (c .before .before .before .before .before .before .before .before .add-gates .ensures .gates-most))
 
 slice-aggregate-take-out-gates-2 : tie.Need-slice-aggregate-take-out-gates-2
-slice-aggregate-take-out-gates-2 c = let s = c .before .before .before .before .before .before .before .before .before .before .before .before .before .before .before .before .before .before .before .before .before .before .before .before in
+slice-aggregate-take-out-gates-2 c =
+    let s = c .before .before .before .before .before .before .before .before .before .before .before .before .before .before .before .before .before .before .before .before .before .before .before .before in
     let a = s .args in sym (length-take-le _ _ (omega (arith, c .before .before .before .before .before .before .before .before .before .add-gates .ensures .gates-most, same-gates (a .survey) (a .first) (a .spacing) (a .azimuth) (a .entries .now) (c .before .before .before .before .before .before .before .before .before .before .before .before .before .before .before .before .ray-ledger .ensures), s .pre .1 .values-length)))
 
 slice-aggregate-take-out-gates-3 : tie.Need-slice-aggregate-take-out-gates-3
-slice-aggregate-take-out-gates-3 c = let s = c .before .before .before .before .before .before .before .before .before .before .before .before .before .before .before .before .before .before .before .before .before .before .before .before .before in
+slice-aggregate-take-out-gates-3 c =
+    let s = c .before .before .before .before .before .before .before .before .before .before .before .before .before .before .before .before .before .before .before .before .before .before .before .before .before in
     let a = s .args in sym (length-take-le _ _ (omega (arith, c .before .before .before .before .before .before .before .before .before .before .add-gates .ensures .gates-most, same-gates (a .survey) (a .first) (a .spacing) (a .azimuth) (a .entries .now) (c .before .before .before .before .before .before .before .before .before .before .before .before .before .before .before .before .before .ray-ledger .ensures), s .pre .1 .qualities-length)))
 
 take-out-gates-requires : tie.Need-take-out-gates-requires
-take-out-gates-requires c κs = let s = c .before .before .before .before .before .before .before .before .before .before .before .before .before .before .before .before .before .before .before .before .before .before .before .before .before .before .before .before in
+take-out-gates-requires c κs =
+    let s = c .before .before .before .before .before .before .before .before .before .before .before .before .before .before .before .before .before .before .before .before .before .before .before .before .before .before .before .before in
     let a = s .args in first-added (c .before .before .before .before .before .before .before .before .before .before .before .before .before .add-gates .ensures) (ray-addable (s .pre .1) (same-gates (a .survey) (a .first) (a .spacing) (a .azimuth) (a .entries .now) (c .before .before .before .before .before .before .before .before .before .before .before .before .before .before .before .before .before .before .before .before .ray-ledger .ensures)))
 
 same-length-5 : tie.Need-same-length-5
@@ -62,7 +67,8 @@ same-length-8 : tie.Need-same-length-8
 same-length-8 c = search needs
 
 returns-2 : tie.Need-returns-2
-returns-2 c = let a = c .before .before .before .before .before .before .before .before .before .before .before .before .before .before .before .before .before .before .before .before .before .before .before .before .before .before .before .before .before .before .before .before .before .before .before .args in
+returns-2 c =
+    let a = c .before .before .before .before .before .before .before .before .before .before .before .before .before .before .before .before .before .before .before .before .before .before .before .before .before .before .before .before .before .before .before .before .before .before .before .args in
     let written = c .before .before .before .before .before .before .before .before .before .before .before .before .before .before .before .before .before .before .before .before .before .before .before .before .before .before .before .ray-ledger .ensures in
     none-of-them (c .before .before .before .before .before .before .before .before .before .before .before .before .before .before .before .before .before .before .before .before .add-gates .ensures) (is-ray (a .survey) (a .first) (a .spacing) (a .azimuth) (a .entries .now) written) (λ e. c .before .before .before .before .before .before .before .before .before .before .before .before .before .if1 .left (e ∙ same-gates (a .survey) (a .first) (a .spacing) (a .azimuth) (a .entries .now) written)) (c .before .before .before .before .before .before .take-out-gates .ensures)
 

@@ -5,11 +5,13 @@ use Rattle.ray_sums.proofs.take_out_ray.Statement.{statement}
 use Rattle.ray_sums.proofs.take_out_ray.Tie as tie
 
 ray-ledger-requires : tie.Need-ray-ledger-requires
-ray-ledger-requires c κs = let asked = c .before .before .before .before .before .before .before .pre in
+ray-ledger-requires c κs =
+    let asked = c .before .before .before .before .before .before .before .pre in
     (asked .0, ray-span (asked .1))
 
 take-out-gates-requires : tie.Need-take-out-gates-requires
-take-out-gates-requires c κs = let s = c .before .before .before .before .before .before .before .before .before .before .before .before .before .before in
+take-out-gates-requires c κs =
+    let s = c .before .before .before .before .before .before .before .before .before .before .before .before .before .before in
     let a = s .args in rw (is-ray (a .survey) (a .first) (a .spacing) (a .azimuth) (a .entries .now) (c .before .before .before .before .before .before .ray-ledger .ensures)) (s .pre .2)
 
 same-length : tie.Need-same-length
@@ -25,7 +27,8 @@ same-length-4 : tie.Need-same-length-4
 same-length-4 c = search needs
 
 returns : tie.Need-returns
-returns c = let a = c .before .before .before .before .before .before .before .before .before .before .before .before .before .before .before .before .before .before .before .before .before .args in
+returns c =
+    let a = c .before .before .before .before .before .before .before .before .before .before .before .before .before .before .before .before .before .before .before .before .before .args in
     rw (← is-ray (a .survey) (a .first) (a .spacing) (a .azimuth) (a .entries .now) (c .before .before .before .before .before .before .before .before .before .before .before .before .before .ray-ledger .ensures)) (c .before .before .before .before .before .before .take-out-gates .ensures)
 
 pub take-out-ray-spec : {M : Type 1} → statement M

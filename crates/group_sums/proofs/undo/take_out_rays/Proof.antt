@@ -28,10 +28,14 @@ sub-ray : tie.Need-sub-ray Inv-loop μ-loop
 sub-ray c = search needs
 
 mul-start : tie.Need-mul-start Inv-loop μ-loop
-mul-start c = let a = c .before .before .before .before .before .before .before .before .before .args in omega (arith, ray-end (c .before .loop .ray - 1) (length (a .azimuths .now)) (length (a .entries .now)) (omega arith), c .before .before .before .before .before .before .before .before .before .pre .1 .values-length, c .before .before .before .before .before .before .before .before .before .good .1 .1 .1 .1 .1 .1 .0 .0)
+mul-start c =
+    let a = c .before .before .before .before .before .before .before .before .before .args in
+    omega (arith, ray-end (c .before .loop .ray - 1) (length (a .azimuths .now)) (length (a .entries .now)) (omega arith), c .before .before .before .before .before .before .before .before .before .pre .1 .values-length, c .before .before .before .before .before .before .before .before .before .good .1 .1 .1 .1 .1 .1 .0 .0)
 
 add-end : tie.Need-add-end Inv-loop μ-loop
-add-end c = let a = c .before .before .before .before .before .before .before .before .before .args in omega (arith, ray-end (c .before .loop .ray - 1) (length (a .azimuths .now)) (length (a .entries .now)) (omega arith), c .before .before .before .before .before .before .before .before .before .pre .1 .values-length, c .before .before .before .before .before .before .before .before .before .good .1 .1 .1 .1 .1 .1 .0 .0)
+add-end c =
+    let a = c .before .before .before .before .before .before .before .before .before .args in
+    omega (arith, ray-end (c .before .loop .ray - 1) (length (a .azimuths .now)) (length (a .entries .now)) (omega arith), c .before .before .before .before .before .before .before .before .before .pre .1 .values-length, c .before .before .before .before .before .before .before .before .before .good .1 .1 .1 .1 .1 .1 .0 .0)
 
 mul-take-out-ray : tie.Need-mul-take-out-ray Inv-loop μ-loop
 mul-take-out-ray c = search needs
@@ -40,7 +44,9 @@ shared-slice-read-take-out-ray : tie.Need-shared-slice-read-take-out-ray Inv-loo
 shared-slice-read-take-out-ray c = search needs
 
 mul-take-out-ray-2 : tie.Need-mul-take-out-ray-2 Inv-loop μ-loop
-mul-take-out-ray-2 c = let a = c .before .before .before .before .before .before .before .before .before .before .before .args in omega (arith, ray-end (c .before .before .before .loop .ray - 1) (length (a .azimuths .now)) (length (a .entries .now)) (omega arith), c .before .before .before .before .before .before .before .before .before .before .before .pre .1 .values-length, c .before .before .before .before .before .before .before .before .before .before .before .good .1 .1 .1 .1 .1 .1 .0 .0, c .before .before .before .before .before .before .before .before .before .before .before .good .1 .1 .1 .1 .1 .1 .0 .1)
+mul-take-out-ray-2 c =
+    let a = c .before .before .before .before .before .before .before .before .before .before .before .args in
+    omega (arith, ray-end (c .before .before .before .loop .ray - 1) (length (a .azimuths .now)) (length (a .entries .now)) (omega arith), c .before .before .before .before .before .before .before .before .before .before .before .pre .1 .values-length, c .before .before .before .before .before .before .before .before .before .before .before .good .1 .1 .1 .1 .1 .1 .0 .0, c .before .before .before .before .before .before .before .before .before .before .before .good .1 .1 .1 .1 .1 .1 .0 .1)
 
 sub-take-out-ray : tie.Need-sub-take-out-ray Inv-loop μ-loop
 sub-take-out-ray c = search needs
@@ -49,7 +55,9 @@ part-take-out-ray-start : tie.Need-part-take-out-ray-start Inv-loop μ-loop
 part-take-out-ray-start c = search needs
 
 part-take-out-ray-end : tie.Need-part-take-out-ray-end Inv-loop μ-loop
-part-take-out-ray-end c = let a = c .before .before .before .before .before .before .before .before .before .before .before .args in omega (arith, ray-end (c .before .before .before .loop .ray - 1) (length (a .azimuths .now)) (length (a .entries .now)) (omega arith), c .before .before .before .before .before .before .before .before .before .before .before .pre .1 .values-length)
+part-take-out-ray-end c =
+    let a = c .before .before .before .before .before .before .before .before .before .before .before .args in
+    omega (arith, ray-end (c .before .before .before .loop .ray - 1) (length (a .azimuths .now)) (length (a .entries .now)) (omega arith), c .before .before .before .before .before .before .before .before .before .before .before .pre .1 .values-length)
 
 sub-take-out-ray-2 : tie.Need-sub-take-out-ray-2 Inv-loop μ-loop
 sub-take-out-ray-2 c = search needs
@@ -58,10 +66,13 @@ part-take-out-ray-start-2 : tie.Need-part-take-out-ray-start-2 Inv-loop μ-loop
 part-take-out-ray-start-2 c = search needs
 
 part-take-out-ray-end-2 : tie.Need-part-take-out-ray-end-2 Inv-loop μ-loop
-part-take-out-ray-end-2 c = let a = c .before .before .before .before .before .before .before .before .before .before .before .before .args in omega (arith, ray-end (c .before .before .before .before .loop .ray - 1) (length (a .azimuths .now)) (length (a .entries .now)) (omega arith), c .before .before .before .before .before .before .before .before .before .before .before .before .pre .1 .qualities-length)
+part-take-out-ray-end-2 c =
+    let a = c .before .before .before .before .before .before .before .before .before .before .before .before .args in
+    omega (arith, ray-end (c .before .before .before .before .loop .ray - 1) (length (a .azimuths .now)) (length (a .entries .now)) (omega arith), c .before .before .before .before .before .before .before .before .before .before .before .before .pre .1 .qualities-length)
 
 take-out-ray-requires : tie.Need-take-out-ray-requires Inv-loop μ-loop
-take-out-ray-requires c κs = let a = c .before .before .before .before .before .before .before .before .before .before .before .before .before .before .before .before .args in
+take-out-ray-requires c κs =
+    let a = c .before .before .before .before .before .before .before .before .before .before .before .before .before .before .before .before .args in
     let l = c .before .before .before .before .before .before .before .before .loop .inv in
     let gates = length (a .entries .now) in
     let ray = c .before .before .before .before .before .before .before .before .loop .ray - 1 in
@@ -72,7 +83,8 @@ loop-less : tie.Need-loop-less Inv-loop μ-loop
 loop-less c = search needs
 
 loop-again : tie.Need-loop-again Inv-loop μ-loop
-loop-again c = let a = c .before .before .before .before .before .before .before .before .before .before .before .before .before .before .before .before .before .before .before .before .before .before .before .before .before .args in
+loop-again c =
+    let a = c .before .before .before .before .before .before .before .before .before .before .before .before .before .before .before .before .before .before .before .before .before .before .before .before .before .args in
     let l = c .before .before .before .before .before .before .before .before .before .before .before .before .before .before .before .before .before .loop .inv in
     let gates = length (a .entries .now) in
     let ray = c .before .before .before .before .before .before .before .before .before .before .before .before .before .before .before .before .before .loop .ray - 1 in

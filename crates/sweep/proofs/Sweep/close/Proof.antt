@@ -1,11 +1,11 @@
 -- `sweep::Sweep::close` meets its contract: a refused closing leaves the cells, an accepted one publishes them. Assumes nothing.
 use mathlib.Core.Path.{_≡_, refl, sym, ap, _∙_}
+use Prim.Native.Nat.{ℕ}
 use Rattle.refusal.proofs.AnswerLaws.{is-refused, is-given, kept, filled}
 use Rattle.publish.specs.Publish.{publishedCells}
+use Rattle.tally.specs.LentSums.{Sums, Cells, sumsHeld, cellsHeld}
 use Rattle.sweep.specs.SweepOperations.{sweptAnswer, closeRefusal, ended}
 use Rattle.sweep.proofs.ClosedSweep.{AcceptedClose, accepted-close, publishable}
-use Prim.Native.Nat.{ℕ}
-use Rattle.tally.specs.LentSums.{Sums, Cells, sumsHeld, cellsHeld}
 use borrow.Author.Needs.{needs}
 use Rattle.sweep.proofs.Sweep.close.Statement.{statement}
 use Rattle.sweep.proofs.Sweep.close.Tie as tie
@@ -29,7 +29,8 @@ close-refusal-requires c κs = search needs
 
 returns : tie.Need-returns
 unfolding sweptAnswer closeRefusal
-returns c = let is = c .before .close-refusal .ensures in
+returns c =
+    let is = c .before .close-refusal .ensures in
     let wrong : number (c .before .before .before .before .before .before .before .before) ≡ 0 → ⊥ = λ e. c .if1 .taken (is ∙ e) in
     record { the-answer = rw is (is-refused _ _ wrong); the-cells = kept _ _ _ wrong }
 
@@ -45,7 +46,8 @@ same-length-2 c = search needs
 
 returns-2 : tie.Need-returns-2
 unfolding sweptAnswer closeRefusal ended
-returns-2 c = let s = c .before .before .before .before .before .before .before .before .before .before .before .before .before .before .before in
+returns-2 c =
+    let s = c .before .before .before .before .before .before .before .before .before .before .before .before .before .before .before in
     let zero : number s ≡ 0 = sym (c .before .before .before .before .before .before .before .before .close-refusal .ensures) ∙ c .before .before .before .before .before .before .before .if1 .left in
     record { the-answer = is-given zero refl; the-cells = filled _ zero (c .before .before .before .before .publish .ensures ∙ ap (publishedCells (s .args .self .head .weighting) (sums s)) (known s zero .means-length)) }
 

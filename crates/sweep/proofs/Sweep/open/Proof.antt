@@ -1,9 +1,9 @@
 -- `sweep::Sweep::open` meets its contract: a refused opening leaves the sums, an accepted one clears them. Assumes nothing.
 use mathlib.Core.Path.{_≡_, refl, sym, _∙_}
-use Rattle.refusal.proofs.AnswerLaws.{is-refused, is-given, kept, filled}
-use Rattle.sweep.specs.SweepOperations.{sweptAnswer, openRefusal, opened}
 use Prim.Native.Nat.{ℕ}
+use Rattle.refusal.proofs.AnswerLaws.{is-refused, is-given, kept, filled}
 use Rattle.tally.specs.LentSums.{sumsHeld}
+use Rattle.sweep.specs.SweepOperations.{sweptAnswer, openRefusal, opened}
 use borrow.Author.Needs.{needs}
 use Rattle.sweep.proofs.Sweep.open.Statement.{statement}
 use Rattle.sweep.proofs.Sweep.open.Tie as tie
@@ -17,7 +17,8 @@ open-refusal-requires c κs = search needs
 
 returns : tie.Need-returns
 unfolding sweptAnswer openRefusal
-returns c = let is = c .before .open-refusal .ensures in
+returns c =
+    let is = c .before .open-refusal .ensures in
     let wrong : number (c .before .before .before .before .before) ≡ 0 → ⊥ = λ e. c .if1 .taken (is ∙ e) in
     record { the-answer = rw is (is-refused _ _ wrong); the-sums = kept _ _ _ wrong }
 
@@ -35,7 +36,8 @@ same-length-3 c = search needs
 
 returns-2 : tie.Need-returns-2
 unfolding sweptAnswer openRefusal opened
-returns-2 c = let zero = sym (c .before .before .before .before .before .before .before .before .before .before .before .open-refusal .ensures) ∙ c .before .before .before .before .before .before .before .before .before .before .if1 .left in
+returns-2 c =
+    let zero = sym (c .before .before .before .before .before .before .before .before .before .before .before .open-refusal .ensures) ∙ c .before .before .before .before .before .before .before .before .before .before .if1 .left in
     record { the-answer = is-given zero refl; the-sums = filled _ zero (c .before .before .before .before .before .before .clear-sums .ensures) }
 
 pub open-spec : {M : Type 1} → statement M

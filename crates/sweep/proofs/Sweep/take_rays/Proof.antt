@@ -38,7 +38,8 @@ take-refusal-requires c κs = search needs
 
 returns : tie.Need-returns
 unfolding sweptAnswer raysRefusal takeChecks
-returns c = let s = c .before .before .before .before .before .before .before .before .before .before .before .before in
+returns c =
+    let s = c .before .before .before .before .before .before .before .before .before .before .before .before in
     let take-refusal-call = c .before .take-refusal in
     let if1-call = c .if1 in
     let sweep = s .args .self in
@@ -49,7 +50,8 @@ returns c = let s = c .before .before .before .before .before .before .before .b
 
 accepted-take-requires : tie.Need-accepted-take-requires
 unfolding takeChecks
-accepted-take-requires c κs = let s = c .before .before .before .before .before .before .before .before .before .before .before .before .before .before .before .before in
+accepted-take-requires c κs =
+    let s = c .before .before .before .before .before .before .before .before .before .before .before .before .before .before .before .before in
     let zero : checks s ≡ 0 = sym (c .before .before .before .before .before .take-refusal .ensures ∙ rw (c .before .before .before .before .before .before .before .azimuths-accepted .ensures, c .before .before .before .before .before .before .qualities-accepted .ensures)) ∙ c .before .before .before .before .if1 .left in
     rw (good s zero .open-yet) at zero
 
@@ -67,7 +69,8 @@ same-length-4 c = search needs
 
 returns-2 : tie.Need-returns-2
 unfolding sweptAnswer raysRefusal takeChecks answered afterwards
-returns-2 c = let s = c .before .before .before .before .before .before .before .before .before .before .before .before .before .before .before .before .before .before .before .before .before .before .before .before .before .before in
+returns-2 c =
+    let s = c .before .before .before .before .before .before .before .before .before .before .before .before .before .before .before .before .before .before .before .before .before .before .before .before .before .before in
     let sweep = s .args .self in
     let zero : checks s ≡ 0 = sym (c .before .before .before .before .before .before .before .before .before .before .before .before .before .before .before .take-refusal .ensures ∙ rw (c .before .before .before .before .before .before .before .before .before .before .before .before .before .before .before .before .before .azimuths-accepted .ensures, c .before .before .before .before .before .before .before .before .before .before .before .before .before .before .before .before .qualities-accepted .ensures)) ∙ c .before .before .before .before .before .before .before .before .before .before .before .before .before .before .if1 .left in
     let taken = c .before .before .before .before .before .before .before .before .before .accepted-take .ensures in
@@ -77,11 +80,15 @@ returns-2 c = let s = c .before .before .before .before .before .before .before 
 
 cast-t30 : tie.Need-cast-t30
 unfolding takeChecks
-cast-t30 c = let g = good (c .before .before .before .before .before .before .before .before .before .before .before .before .before .before .before .before .before .before .before .before .before .before .before .before .before .before) (sym (c .before .before .before .before .before .before .before .before .before .before .before .before .before .before .before .take-refusal .ensures ∙ rw (c .before .before .before .before .before .before .before .before .before .before .before .before .before .before .before .before .before .azimuths-accepted .ensures, c .before .before .before .before .before .before .before .before .before .before .before .before .before .before .before .before .qualities-accepted .ensures)) ∙ c .before .before .before .before .before .before .before .before .before .before .before .before .before .before .if1 .left) in omega (arith, g .rays-most, g .rays-limit)
+cast-t30 c =
+    let g = good (c .before .before .before .before .before .before .before .before .before .before .before .before .before .before .before .before .before .before .before .before .before .before .before .before .before .before) (sym (c .before .before .before .before .before .before .before .before .before .before .before .before .before .before .before .take-refusal .ensures ∙ rw (c .before .before .before .before .before .before .before .before .before .before .before .before .before .before .before .before .before .azimuths-accepted .ensures, c .before .before .before .before .before .before .before .before .before .before .before .before .before .before .before .before .qualities-accepted .ensures)) ∙ c .before .before .before .before .before .before .before .before .before .before .before .before .before .before .if1 .left) in
+    omega (arith, g .rays-most, g .rays-limit)
 
 add-t31 : tie.Need-add-t31
 unfolding takeChecks
-add-t31 c = let g = good (c .before .before .before .before .before .before .before .before .before .before .before .before .before .before .before .before .before .before .before .before .before .before .before .before .before .before .before) (sym (c .before .before .before .before .before .before .before .before .before .before .before .before .before .before .before .before .take-refusal .ensures ∙ rw (c .before .before .before .before .before .before .before .before .before .before .before .before .before .before .before .before .before .before .azimuths-accepted .ensures, c .before .before .before .before .before .before .before .before .before .before .before .before .before .before .before .before .before .qualities-accepted .ensures)) ∙ c .before .before .before .before .before .before .before .before .before .before .before .before .before .before .before .if1 .left) in omega (arith, g .rays-most, g .rays-limit)
+add-t31 c =
+    let g = good (c .before .before .before .before .before .before .before .before .before .before .before .before .before .before .before .before .before .before .before .before .before .before .before .before .before .before .before) (sym (c .before .before .before .before .before .before .before .before .before .before .before .before .before .before .before .before .take-refusal .ensures ∙ rw (c .before .before .before .before .before .before .before .before .before .before .before .before .before .before .before .before .before .before .azimuths-accepted .ensures, c .before .before .before .before .before .before .before .before .before .before .before .before .before .before .before .before .before .qualities-accepted .ensures)) ∙ c .before .before .before .before .before .before .before .before .before .before .before .before .before .before .before .if1 .left) in
+    omega (arith, g .rays-most, g .rays-limit)
 
 same-length-5 : tie.Need-same-length-5
 same-length-5 c = search needs
@@ -97,7 +104,8 @@ same-length-8 c = search needs
 
 returns-3 : tie.Need-returns-3
 unfolding sweptAnswer raysRefusal takeChecks counted
-returns-3 c = let s = c .before .before .before .before .before .before .before .before .before .before .before .before .before .before .before .before .before .before .before .before .before .before .before .before .before .before .before in
+returns-3 c =
+    let s = c .before .before .before .before .before .before .before .before .before .before .before .before .before .before .before .before .before .before .before .before .before .before .before .before .before .before .before in
     let sweep = s .args .self in
     let zero : checks s ≡ 0 = sym (c .before .before .before .before .before .before .before .before .before .before .before .before .before .before .before .before .take-refusal .ensures ∙ rw (c .before .before .before .before .before .before .before .before .before .before .before .before .before .before .before .before .before .before .azimuths-accepted .ensures, c .before .before .before .before .before .before .before .before .before .before .before .before .before .before .before .before .before .qualities-accepted .ensures)) ∙ c .before .before .before .before .before .before .before .before .before .before .before .before .before .before .before .if1 .left in
     let taken = c .before .before .before .before .before .before .before .before .before .before .accepted-take .ensures in

@@ -14,7 +14,8 @@ returns c = rw (other-length (c .if1 .taken) (c .before .before .cells-of .ensur
 
 returns-2 : tie.Need-returns-2
 unfolding cellsAccepted
-returns-2 c = let cells-of-call = c .before .before .before .cells-of in
+returns-2 c =
+    let cells-of-call = c .before .before .before .cells-of in
     rw (exact-length (c .before .if1 .left) (cells-of-call .ensures), cells-of-call .ensures)
 
 pub cells-accepted-spec : {M : Type 1} → statement M

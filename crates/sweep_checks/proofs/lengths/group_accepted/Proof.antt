@@ -1,7 +1,7 @@
 -- `sweep_checks::lengths::group_accepted` meets its contract. Assumes nothing.
 use mathlib.Core.Path.{refl}
-use native.Mathlib.Omega.{arith}
 use Prim.Native.Nat.{_*_}
+use native.Mathlib.Omega.{arith}
 use native.Mathlib.Nat.{mul-le-mul}
 use borrow.Author.Tests.{eq-eqb, ne-eqb}
 use Rattle.arithmetic.proofs.Machine.{fits-unsigned}

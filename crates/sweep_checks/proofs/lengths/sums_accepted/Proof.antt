@@ -14,12 +14,14 @@ returns c = rw (other-length (c .if1 .taken) (c .before .before .cells-of .ensur
 
 returns-2 : tie.Need-returns-2
 unfolding sumsAccepted
-returns-2 c = let cells-of-call = c .before .before .before .before .cells-of in
+returns-2 c =
+    let cells-of-call = c .before .before .before .before .cells-of in
     rw (exact-length (c .before .before .if1 .left) (cells-of-call .ensures), other-length (c .if2 .taken) (cells-of-call .ensures))
 
 returns-3 : tie.Need-returns-3
 unfolding sumsAccepted
-returns-3 c = let cells-of-call = c .before .before .before .before .before .cells-of in
+returns-3 c =
+    let cells-of-call = c .before .before .before .before .before .cells-of in
     rw (exact-length (c .before .before .before .if1 .left) (cells-of-call .ensures), exact-length (c .before .if2 .left) (cells-of-call .ensures), cells-of-call .ensures)
 
 pub sums-accepted-spec : {M : Type 1} → statement M

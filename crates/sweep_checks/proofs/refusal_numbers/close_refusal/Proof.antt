@@ -14,7 +14,8 @@ state-refusal-requires c κs = search needs
 
 returns : tie.Need-returns
 unfolding closeNumber
-returns c = let if1-call = c .if1 in
+returns c =
+    let if1-call = c .if1 in
     then-kept _ (then-kept _ (c .before .state-refusal .ensures) (if1-call .taken)) (if1-call .taken)
 
 scan-refusal-requires : tie.Need-scan-refusal-requires
@@ -26,7 +27,8 @@ returns-2 c = then-kept _ (c .before .scan-refusal .ensures ∙ sym (then-next _
 
 returns-3 : tie.Need-returns-3
 unfolding closeNumber firstRefusal
-returns-3 c = let a = c .before .before .before .before .before .before .args in
+returns-3 c =
+    let a = c .before .before .before .before .before .before .args in
     sym (then-next _ (then-next _ (sym (c .before .before .before .before .before .state-refusal .ensures) ∙ c .before .before .before .before .if1 .left) ∙ sym (c .before .before .before .scan-refusal .ensures) ∙ c .before .before .if2 .left) ∙ rw (lt-leb (a .head .rays) (a .taken) (omega arith)))
 
 sums-accepted-requires : tie.Need-sums-accepted-requires
@@ -34,7 +36,8 @@ sums-accepted-requires c κs = search needs
 
 returns-4 : tie.Need-returns-4
 unfolding closeNumber firstRefusal
-returns-4 c = let a = c .before .before .before .before .before .before .before .before .args in
+returns-4 c =
+    let a = c .before .before .before .before .before .before .before .before .args in
     sym (then-next _ (then-next _ (sym (c .before .before .before .before .before .before .before .state-refusal .ensures) ∙ c .before .before .before .before .before .before .if1 .left) ∙ sym (c .before .before .before .before .before .scan-refusal .ensures) ∙ c .before .before .before .before .if2 .left) ∙ rw (le-leb (a .head .rays) (a .taken) (omega arith), sym (c .before .sums-accepted .ensures) ∙ not-true _ (c .if4 .taken)))
 
 cells-accepted-requires : tie.Need-cells-accepted-requires
@@ -42,12 +45,14 @@ cells-accepted-requires c κs = search needs
 
 returns-5 : tie.Need-returns-5
 unfolding closeNumber firstRefusal
-returns-5 c = let a = c .before .before .before .before .before .before .before .before .before .before .args in
+returns-5 c =
+    let a = c .before .before .before .before .before .before .before .before .before .before .args in
     sym (then-next _ (then-next _ (sym (c .before .before .before .before .before .before .before .before .before .state-refusal .ensures) ∙ c .before .before .before .before .before .before .before .before .if1 .left) ∙ sym (c .before .before .before .before .before .before .before .scan-refusal .ensures) ∙ c .before .before .before .before .before .before .if2 .left) ∙ rw (le-leb (a .head .rays) (a .taken) (omega arith), sym (c .before .before .before .sums-accepted .ensures) ∙ not-false _ (c .before .before .if4 .left), sym (c .before .cells-accepted .ensures) ∙ not-true _ (c .if5 .taken)))
 
 returns-6 : tie.Need-returns-6
 unfolding closeNumber firstRefusal
-returns-6 c = let a = c .before .before .before .before .before .before .before .before .before .before .args in
+returns-6 c =
+    let a = c .before .before .before .before .before .before .before .before .before .before .args in
     sym (then-next _ (then-next _ (sym (c .before .before .before .before .before .before .before .before .before .state-refusal .ensures) ∙ c .before .before .before .before .before .before .before .before .if1 .left) ∙ sym (c .before .before .before .before .before .before .before .scan-refusal .ensures) ∙ c .before .before .before .before .before .before .if2 .left) ∙ rw (le-leb (a .head .rays) (a .taken) (omega arith), sym (c .before .before .before .sums-accepted .ensures) ∙ not-false _ (c .before .before .if4 .left), sym (c .before .cells-accepted .ensures) ∙ not-false _ (c .if5 .left)))
 
 pub close-refusal-spec : {M : Type 1} → statement M

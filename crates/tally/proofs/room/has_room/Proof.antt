@@ -1,6 +1,6 @@
 -- `tally::room::has_room` meets its contract. Assumes nothing.
-use native.Mathlib.Omega.{arith}
 use Prim.Native.Nat.{_+_}
+use native.Mathlib.Omega.{arith}
 use borrow.Author.Tests.{le-leb, lt-leb}
 use Rattle.tally.specs.Width.{hasRoom}
 use borrow.Author.Needs.{needs}

@@ -51,7 +51,8 @@ loop-less : tie.Need-loop-less Inv-loop μ-loop
 loop-less c = search needs
 
 loop-again : tie.Need-loop-again Inv-loop μ-loop
-loop-again c = let p = c .before .before .before .before .before .before .before .before .before .before .before .before .pre in
+loop-again c =
+    let p = c .before .before .before .before .before .before .before .before .before .before .before .before .pre in
     let l = c .before .before .before .before .before .loop .inv in
     (search needs, no-cell (l .1) (omega arith), no-cell (l .2) (omega (arith, p .quality-sums-length)), no-cell (l .3) (omega (arith, p .value-sums-length)))
 
@@ -62,7 +63,8 @@ loop-less-2 : tie.Need-loop-less-2 Inv-loop μ-loop
 loop-less-2 c = search needs
 
 loop-again-2 : tie.Need-loop-again-2 Inv-loop μ-loop
-loop-again-2 c = let l = c .before .before .before .before .before .before .loop .inv in
+loop-again-2 c =
+    let l = c .before .before .before .before .before .before .loop .inv in
     let m = c .if2 .taken in
     (search needs, unmeasured (l .1) m, unmeasured (l .2) m, unmeasured (l .3) m)
 
@@ -101,7 +103,8 @@ same-length-3 c = search needs
 
 returns : tie.Need-returns Inv-loop μ-loop
 unfolding addedFirst addedSums
-returns c = let p = c .before .before .before .before .before .before .before .before .before .before .before .before .before .before .before .before .before .before .before .pre in
+returns c =
+    let p = c .before .before .before .before .before .before .before .before .before .before .before .before .before .before .before .before .before .before .before .pre in
     let l = c .before .before .before .before .before .before .before .before .before .before .before .before .loop .inv in
     let m = c .before .before .before .before .before .before .if2 .left in
     let here = c .before .before .before .before .before .before .before .before .before .before .before .loop-test .taken in
@@ -167,7 +170,8 @@ loop-less-3 : tie.Need-loop-less-3 Inv-loop μ-loop
 loop-less-3 c = search needs
 
 loop-again-3 : tie.Need-loop-again-3 Inv-loop μ-loop
-loop-again-3 c = let p = c .before .before .before .before .before .before .before .before .before .before .before .before .before .before .before .before .before .before .before .before .before .before .pre in
+loop-again-3 c =
+    let p = c .before .before .before .before .before .before .before .before .before .before .before .before .before .before .before .before .before .before .before .before .before .before .pre in
     let l = c .before .before .before .before .before .before .before .before .before .before .before .before .before .before .before .loop .inv in
     let m = c .before .before .before .before .before .before .before .before .before .if2 .left in
     let enough = room (c .before .before .before .before .has-room .ensures) (c .before .before .before .if3 .left) in (
@@ -188,7 +192,8 @@ same-length-6 c = search needs
 
 returns-2 : tie.Need-returns-2 Inv-loop μ-loop
 unfolding addedFirst addedSums
-returns-2 c = let l = c .before .loop .inv in
+returns-2 c =
+    let l = c .before .loop .inv in
     let last = c .loop-test .left in
     record {
       gates-most = l .0;

@@ -27,7 +27,8 @@ same-length-3 : tie.Need-same-length-3
 same-length-3 c = search needs
 
 returns : tie.Need-returns
-returns c = let answer-sweep-call = c .answer-sweep in
+returns c =
+    let answer-sweep-call = c .answer-sweep in
     let told = rw (c .before .before .before .before .before .before .before .before .before .before .before .before .head-of .ensures) at (c .before .before .before .before .before .before .before .before .«open» .ensures) in
     record {
       the-number = answer-sweep-call .ensures .0 ∙ ap numberIn (told .the-answer) ∙ number-in _ _;

@@ -30,7 +30,8 @@ same-length-4 : tie.Need-same-length-4
 same-length-4 c = search needs
 
 returns : tie.Need-returns
-returns c = let answer-sweep-call = c .answer-sweep in
+returns c =
+    let answer-sweep-call = c .answer-sweep in
     let told = rw (c .before .before .before .before .before .before .before .before .before .before .before .before .before .before .before .sweep-of .ensures) at (c .before .before .before .before .before .before .before .before .before .before .take-rays .ensures) in
     record {
       the-number = answer-sweep-call .ensures .0 ∙ ap numberIn (told .the-answer) ∙ number-in _ _;
