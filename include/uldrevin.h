@@ -171,7 +171,8 @@ uint32_t uldrevin_sweep_open(const struct uldrevin_scan *scan,
  *   quality_sums    one a cell: grows by their qualities
  *   value_sums      one a cell: grows by their values, each times its quality where weighted by quality
  * Refusals, in this order: 19; 17 where these rays and those taken are more than were announced; 1 to 5 for the numbers of the sweep; 6,
- * also for no rays; 7; 8; 31, which only a sweep or sums that a caller has altered can meet.
+ * also for no rays; 7; 8; 31, which is never given while the latest sweep and untouched lists are
+ * handed on.
  */
 uint32_t uldrevin_sweep_take(struct uldrevin_sweep *sweep,
                              const uint32_t *azimuths, size_t azimuths_length,

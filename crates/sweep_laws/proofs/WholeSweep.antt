@@ -116,7 +116,7 @@ module _ (head : ScanHead) (lent : Lists) (sums : Sums) (sweep : Sweep) (opens :
     pub whole-sweep : WholeSweep head lent (acceptedRays noRays calls) (heldAfter (heldFrom sweep lent sums) calls)
     whole-sweep = whole (numbers .grid-accepted) (after-calls calls begun sequence .0)
 
-    -- and 31 is for altered sums alone
+    -- and 31 is never given
     pub never-31 : NotRefusedBy 31 calls
     never-31 = after-calls calls begun sequence .1
 
