@@ -10,6 +10,8 @@ use lib.ListN.{length, getD, length-replicate}
 use lib.Seq.{sets}
 use Rattle.arithmetic.proofs.Places.{table-length, all-at}
 use Rattle.arithmetic.proofs.SetsLaws.{sets-whole}
+use Rattle.placement.specs.declared.gate.Placement.{Placement}
+use Rattle.placement.specs.Gate.{entryOf, markOf}
 use Rattle.placement.specs.Survey.{Surveyed, surveyOf}
 use Rattle.placement.proofs.SurveyLimits.{surveyed-of}
 use Rattle.tally.specs.LentSums.{Sums}
@@ -27,9 +29,9 @@ use Rattle.scan.specs.Scan.{Scan, raysOf, gatesOf, cellsOf}
 use Rattle.scan.specs.ScanRefusal.{qualityAccepted}
 use Rattle.scan.proofs.AcceptedScan.{AcceptedScan}
 use Rattle.scan.proofs.RayLaws.{gates-length, regular-gates}
-use Rattle.scan_ledger.specs.LedgerRoom.{RaysSpan, surveyedLedger}
-use Rattle.scan_ledger.specs.ScanLedger.{ledgerOf}
-use Rattle.scan_ledger.proofs.AcceptedLedger.{centres-most, accepted-ledger}
+use Rattle.scan_ledger.specs.LedgerRoom.{RaysSpan, surveyedGates}
+use Rattle.scan_ledger.specs.ScanLedger.{gatesTold}
+use Rattle.scan_ledger.proofs.AcceptedLedger.{centres-most, accepted-gates}
 use Rattle.accepted_remap.specs.FilledLists.{filledLists}
 use Rattle.accepted_remap.proofs.FilledCells.{published-are}
 
@@ -40,22 +42,33 @@ module _ {scan : Scan} {lists : Lists} (good : AcceptedScan scan lists) where
   gate-range : (g : ℕ) → g < scan .head .gates → scan .head .first + g * scan .head .spacing ≤ 46000000
   gate-range g h = centres-most (scan .head .gates) (scan .head .first) (scan .head .spacing) g (good .centres) h
 
-  pub rays-span : RaysSpan (scan .head .gates) (scan .head .first) (scan .head .spacing) 0 (scan .azimuths) (lists .ledger)
+  pub rays-span : RaysSpan (scan .head .gates) (scan .head .first) (scan .head .spacing) 0 (scan .azimuths) (lists .ledger) (lists .marks)
   unfolding gatesOf
   rays-span = record {
     gates-least = good .gates-least;
     gates-most = good .gates-most;
     end-most = omega (arith, good .lengths .ledger-length, ap (λ (n : ℕ). n * scan .head .gates) (good .lengths .azimuths-length));
+    marks-most = omega (arith, good .lengths .marks-length, ap (λ (n : ℕ). n * scan .head .gates) (good .lengths .azimuths-length));
     ranges = gate-range;
   }
 
-  ledger-length : length (filledLists scan .ledger) ≡ gatesOf (scan .head)
-  unfolding filledLists ledgerOf raysOf gatesOf
-  ledger-length = gates-length _ _ _ _ ∙ regular-gates (scan .head .gates) (scan .azimuths) ∙ ap (λ (n : ℕ). n * scan .head .gates) (good .lengths .azimuths-length)
+  -- what is told of each gate, written over a list of as many places
+  module _ (told : Placement → ℕ) where
+    told-length : length (gatesTold told (scan .head) (raysOf scan)) ≡ gatesOf (scan .head)
+    unfolding gatesTold raysOf gatesOf
+    told-length = gates-length _ _ _ _ ∙ regular-gates (scan .head .gates) (scan .azimuths) ∙ ap (λ (n : ℕ). n * scan .head .gates) (good .lengths .azimuths-length)
 
-  pub ledger-is : sets (lists .ledger) 0 (surveyedLedger (surveyOf (scan .head .site) (scan .head .grid)) (scan .head .first) (scan .head .spacing) (regularRays (scan .head .gates) (scan .azimuths))) ≡ filledLists scan .ledger
-  unfolding filledLists raysOf
-  ledger-is = rw (accepted-ledger (scan .head) (good .centres) (good .site) (good .grid) (scan .azimuths) (good .azimuths-good)) (sets-whole (lists .ledger) _ (ledger-length ∙ sym (good .lengths .ledger-length)))
+    told-is : (lent : List ℕ) → length lent ≡ gatesOf (scan .head) → sets lent 0 (surveyedGates told (surveyOf (scan .head .site) (scan .head .grid)) (scan .head .first) (scan .head .spacing) (regularRays (scan .head .gates) (scan .azimuths))) ≡ gatesTold told (scan .head) (raysOf scan)
+    unfolding raysOf
+    told-is lent e = rw (accepted-gates (scan .head) (good .centres) (good .site) (good .grid) told (scan .azimuths) (good .azimuths-good)) (sets-whole lent _ (told-length ∙ sym e))
+
+  pub ledger-is : sets (lists .ledger) 0 (surveyedGates entryOf (surveyOf (scan .head .site) (scan .head .grid)) (scan .head .first) (scan .head .spacing) (regularRays (scan .head .gates) (scan .azimuths))) ≡ filledLists scan .ledger
+  unfolding filledLists
+  ledger-is = told-is entryOf (lists .ledger) (good .lengths .ledger-length)
+
+  pub marks-are : sets (lists .marks) 0 (surveyedGates markOf (surveyOf (scan .head .site) (scan .head .grid)) (scan .head .first) (scan .head .spacing) (regularRays (scan .head .gates) (scan .azimuths))) ≡ filledLists scan .marks
+  unfolding filledLists
+  marks-are = told-is markOf (lists .marks) (good .lengths .marks-length)
 
   gates-most : gatesOf (scan .head) ≤ 720000
   unfolding gatesOf
@@ -69,7 +82,8 @@ module _ {scan : Scan} {lists : Lists} (good : AcceptedScan scan lists) where
 
   module _ {written : List ℕ} (ledger-written : written ≡ filledLists scan .ledger) where
     written-length : length written ≡ gatesOf (scan .head)
-    written-length = ap length ledger-written ∙ ledger-length
+    unfolding filledLists
+    written-length = ap length ledger-written ∙ told-length entryOf
 
     pub addable : Addable written (scan .values) (scan .qualities) (cleared (lists .sums))
     unfolding cleared

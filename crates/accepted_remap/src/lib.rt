@@ -1,4 +1,4 @@
-// The whole scan, of accepted numbers and lists: ledger, tally, publish.
+// The whole scan, of accepted numbers and lists: ledger and marks, tally, publish.
 use publish::publish;
 use scan::ScanHead;
 use scan_ledger::scan_ledger;
@@ -17,14 +17,15 @@ pub fn accepted_remap(
     values: &[u16],
     qualities: &[u8],
     ledger: &mut [u32],
+    marks: &mut [u8],
     counts: &mut [u32],
     quality_sums: &mut [u32],
     value_sums: &mut [u64],
     means: &mut [u16],
     cell_qualities: &mut [u8],
 )
-    requires { ⌜ refusalFor (scanHeld head azimuths values qualities) (listsHeld ledger counts «quality_sums» «value_sums» means «cell_qualities») ≡ 0 ⌝ }
-    ensures { λ _. ⌜ lentLists ledger counts «quality_sums» «value_sums» means «cell_qualities» .exit ≡ filledLists (scanHeld head (azimuths .entry) (values .entry) (qualities .entry)) ⌝ }
+    requires { ⌜ refusalFor (scanHeld head azimuths values qualities) (listsHeld ledger marks counts «quality_sums» «value_sums» means «cell_qualities») ≡ 0 ⌝ }
+    ensures { λ _. ⌜ lentLists ledger marks counts «quality_sums» «value_sums» means «cell_qualities» .exit ≡ filledLists (scanHeld head (azimuths .entry) (values .entry) (qualities .entry)) ⌝ }
 {
     let site = head.site;
     let grid = head.grid;
@@ -37,6 +38,7 @@ pub fn accepted_remap(
         head.spacing,
         azimuths,
         ledger,
+        marks,
         0,
     );
     clear_sums(counts, quality_sums, value_sums);

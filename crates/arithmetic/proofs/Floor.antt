@@ -23,10 +23,12 @@ less-floor : (z a : ℤ) (r : ℕ) → z ≡ a +ℤ pos r → z -ℤ a ≡ pos r
 less-floor z a r e =
     ap (λ (w : ℤ). w -ℤ a) e ∙ rw (as-difference a) (simp differences (same-difference _ _ _ _ (omega arith)))
 
--- m times the floor is at most m from z
+-- so far past m times its floor
+pub past-floor : (z : ℤ) (m : ℕ) → 0 < m → z -ℤ (z ÷ m) *ℤ pos m ≡ pos (z modulo m)
+past-floor z m h = less-floor z ((z ÷ m) *ℤ pos m) (z modulo m) (floor-modulo z m h)
+
 pub floor-near : (z : ℤ) (m : ℕ) → 0 < m → natAbs (z -ℤ (z ÷ m) *ℤ pos m) ≤ m
-floor-near z m h =
-    rw (less-floor z ((z ÷ m) *ℤ pos m) (z modulo m) (floor-modulo z m h)) (omega (arith, modulo-below z m h))
+floor-near z m h = rw (past-floor z m h) (omega (arith, modulo-below z m h))
 
 -- ---- floor and remainder are the only such numbers
 

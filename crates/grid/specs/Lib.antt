@@ -1,2 +1,4 @@
 pub mod Sphere
 pub mod Window
+pub mod Mark
+pub mod LineRoom

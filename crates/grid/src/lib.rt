@@ -1,7 +1,9 @@
-// The sphere of a kind of grid, and the cells that a grid spans.
+// The sphere of a kind of grid, the cells that a grid spans, and what lies near their lines.
+mod mark;
 mod sphere;
 mod window;
 
+pub use mark::near_line;
 pub use sphere::Sphere;
 pub use sphere::sphere_of;
 pub use window::Window;

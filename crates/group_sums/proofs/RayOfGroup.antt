@@ -9,7 +9,8 @@ use lib.ListN.{length, getD, take, drop, length-drop}
 use lib.Seq.{length-take-le, getD-take, getD-drop}
 use Rattle.arithmetic.proofs.Places.{table-length, table-at}
 use Rattle.placement.specs.declared.survey.Survey.{Survey}
-use Rattle.placement.specs.Survey.{surveyedEntry, surveyedRay}
+use Rattle.placement.specs.Gate.{entryOf}
+use Rattle.placement.specs.Survey.{surveyedGate, surveyedRay}
 use Rattle.tally.specs.declared.gates.Weighting.{Weighting}
 use Rattle.tally.specs.LentSums.{Sums}
 use Rattle.tally.specs.Tally.{addedFirst, addedSums}
@@ -17,7 +18,7 @@ use Rattle.tally.proofs.TallyTurn.{added-length}
 use Rattle.tally.proofs.TallySplit.{PartOf, added-on}
 use Rattle.scan.specs.Rays.{regularRays}
 use Rattle.scan.proofs.RayLaws.{gate-at, gates-length, regular-gates}
-use Rattle.scan_ledger.specs.LedgerRoom.{surveyedLedger}
+use Rattle.scan_ledger.specs.LedgerRoom.{surveyedGates}
 use Rattle.ray_sums.specs.RaySums.{RayAddable}
 use Rattle.group_sums.specs.GroupRoom.{GroupAddable}
 
@@ -32,15 +33,15 @@ pub no-rays : (ray gates : ℕ) → ray ≡ 0 → ray * gates ≡ 0
 no-rays ray gates e = ap (λ (n : ℕ). n * gates) e ∙ zero-mul gates
 
 abbrev pub groupLedger : Survey → ℕ → ℕ → ℕ → List ℕ → List ℕ
-groupLedger survey first spacing gates azimuths = surveyedLedger survey first spacing (regularRays gates azimuths)
+groupLedger survey first spacing gates azimuths = surveyedGates entryOf survey first spacing (regularRays gates azimuths)
 
 pub group-length : (survey : Survey) (first spacing gates : ℕ) (azimuths : List ℕ) → length (groupLedger survey first spacing gates azimuths) ≡ length azimuths * gates
-unfolding surveyedLedger
+unfolding surveyedGates
 group-length survey first spacing gates azimuths = gates-length _ first spacing (regularRays gates azimuths) ∙ regular-gates gates azimuths
 
 -- the entries of one of its rays
 abbrev pub rayOf : Survey → ℕ → ℕ → ℕ → List ℕ → ℕ → List ℕ
-rayOf survey first spacing gates azimuths ray = surveyedRay survey first spacing (getD azimuths ray 0) gates
+rayOf survey first spacing gates azimuths ray = surveyedRay entryOf survey first spacing (getD azimuths ray 0) gates
 
 -- a part of a list, from a place up to another
 abbrev pub partOf : ℕ → ℕ → List ℕ → List ℕ
@@ -85,9 +86,9 @@ module _ (survey : Survey) (first spacing gates : ℕ) (azimuths values qualitie
   part-at list k h = getD-take (end - start) (drop start list) k 0 (omega arith) ∙ getD-drop start list k 0
 
   entry-at : (k : ℕ) → k < gates → getD (rayOf survey first spacing gates azimuths ray) k 0 ≡ getD (groupLedger survey first spacing gates azimuths) (start + k) 0
-  unfolding surveyedRay surveyedLedger
+  unfolding surveyedRay surveyedGates
   entry-at k h =
-      table-at (λ g. surveyedEntry survey (getD azimuths ray 0) (first + g * spacing)) gates k h
+      table-at (λ g. surveyedGate entryOf survey (getD azimuths ray 0) (first + g * spacing)) gates k h
       ∙ sym (ap (λ (n : ℕ). getD (groupLedger survey first spacing gates azimuths) (n + k) 0) starts ∙ gate-at _ first spacing gates azimuths ray k inside h)
 
   is-part : PartOf (groupLedger survey first spacing gates azimuths) values qualities start gates (rayOf survey first spacing gates azimuths ray) (partOf start end values) (partOf start end qualities)

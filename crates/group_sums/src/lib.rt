@@ -7,10 +7,11 @@ use placement::Survey;
 use ray_sums::add_ray;
 use tally::Weighting;
 ghost use lib.ListN.{length};
+ghost use Rattle.placement.specs.Gate.{entryOf};
 ghost use Rattle.placement.specs.Survey.{Surveyed};
 ghost use Rattle.tally.specs.LentSums.{sumsHeld, lentSums};
 ghost use Rattle.scan.specs.Rays.{regularRays};
-ghost use Rattle.scan_ledger.specs.LedgerRoom.{surveyedLedger};
+ghost use Rattle.scan_ledger.specs.LedgerRoom.{surveyedGates};
 ghost use Rattle.ray_sums.specs.RaySums.{AddsAll};
 ghost use Rattle.group_sums.specs.GroupRoom.{GroupAddable};
 
@@ -30,7 +31,7 @@ pub fn add_rays(
     value_sums: &mut [u64],
 ) -> bool
     requires { ⌜ Surveyed survey × GroupAddable first spacing (now entries) (now azimuths) (now values) (now qualities) (sumsHeld counts «quality_sums» «value_sums») ⌝ }
-    ensures { λ r. ⌜ AddsAll weighting (surveyedLedger survey first spacing (regularRays (length (now (entries .entry))) (now (azimuths .entry)))) (now (values .entry)) (now (qualities .entry)) (lentSums counts «quality_sums» «value_sums») r ⌝ }
+    ensures { λ r. ⌜ AddsAll weighting (surveyedGates entryOf survey first spacing (regularRays (length (now (entries .entry))) (now (azimuths .entry)))) (now (values .entry)) (now (qualities .entry)) (lentSums counts «quality_sums» «value_sums») r ⌝ }
 {
     let gates = entries.len();
     let mut start = 0;

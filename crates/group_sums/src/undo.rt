@@ -5,11 +5,12 @@ use tally::Weighting;
 ghost use mathlib.Core.Path.{_≡_};
 ghost use Prim.Native.Nat.{_*_, _≤_};
 ghost use lib.ListN.{length};
+ghost use Rattle.placement.specs.Gate.{entryOf};
 ghost use Rattle.placement.specs.Survey.{Surveyed};
 ghost use Rattle.tally.specs.LentSums.{sumsHeld, lentSums};
 ghost use Rattle.tally.specs.Tally.{addedFirst};
 ghost use Rattle.scan.specs.Rays.{regularRays};
-ghost use Rattle.scan_ledger.specs.LedgerRoom.{surveyedLedger};
+ghost use Rattle.scan_ledger.specs.LedgerRoom.{surveyedGates};
 ghost use Rattle.group_sums.specs.GroupRoom.{GroupAddable, RaysAdded};
 
 // Leaves the sums onto which the first rays were added. The ray that was added last goes first.
@@ -30,11 +31,11 @@ pub fn take_out_rays(
     requires { ⌜ Surveyed survey
         × GroupAddable first spacing (now entries) (now azimuths) (now values) (now qualities) (sumsHeld counts «quality_sums» «value_sums»)
         × (rays ≤ length (now azimuths))
-        × RaysAdded weighting (surveyedLedger survey first spacing (regularRays (length (now entries)) (now azimuths))) (now values) (now qualities) (rays * length (now entries)) (sumsHeld counts «quality_sums» «value_sums») ⌝ }
+        × RaysAdded weighting (surveyedGates entryOf survey first spacing (regularRays (length (now entries)) (now azimuths))) (now values) (now qualities) (rays * length (now entries)) (sumsHeld counts «quality_sums» «value_sums») ⌝ }
     ensures { λ _.
         let sums = lentSums counts «quality_sums» «value_sums» in
         let gates = length (now (entries .entry)) in
-        ⌜ sums .entry ≡ addedFirst weighting (surveyedLedger survey first spacing (regularRays gates (now (azimuths .entry)))) (now (values .entry)) (now (qualities .entry)) (rays * gates) (sums .exit) ⌝ }
+        ⌜ sums .entry ≡ addedFirst weighting (surveyedGates entryOf survey first spacing (regularRays gates (now (azimuths .entry)))) (now (values .entry)) (now (qualities .entry)) (rays * gates) (sums .exit) ⌝ }
 {
     let gates = entries.len();
     let mut ray = rays;

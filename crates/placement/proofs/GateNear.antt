@@ -10,7 +10,7 @@ use Rattle.placement.specs.GateNearness.{PositionWithin}
 use Rattle.projection.specs.Position.{positionOf, positionBy}
 use Rattle.grid.specs.Sphere.{sphereOf}
 use Rattle.grid.specs.Window.{windowOf, cellNumber}
-use Rattle.placement.specs.Located.{inWindow, row, column, located}
+use Rattle.placement.specs.Located.{inWindow, row, column, marked, located}
 use Rattle.projection.proofs.GateTerms.{GoodGate, good-sphere}
 use Rattle.projection.proofs.PositionNear.{X-within, Y-within}
 
@@ -23,14 +23,14 @@ module _ (site : Site) (grid : Grid) (azimuth range : ℕ) (G : GoodGate site az
   }
 
   -- in whichever cell it lies, or outside
-  by-test : (inside : Bool) (cell : ℕ) (at : Position) → WithinExact bound site grid azimuth range (at .x) (at .y) → PositionWithin bound site grid azimuth range (cond inside (Inside cell (at .x) (at .y)) (Outside (at .x) (at .y)))
+  by-test : (inside mark : Bool) (cell : ℕ) (at : Position) → WithinExact bound site grid azimuth range (at .x) (at .y) → PositionWithin bound site grid azimuth range (cond inside (Inside cell (at .x) (at .y) mark) (Outside (at .x) (at .y) mark))
   unfolding PositionWithin
-  by-test true cell at h = h
-  by-test false cell at h = h
+  by-test true mark cell at h = h
+  by-test false mark cell at h = h
 
   pub located-within : PositionWithin bound site grid azimuth range (located (windowOf grid) (positionOf (sphereOf grid) site azimuth range))
   unfolding located
   located-within =
       let window = windowOf grid in
       let at = positionOf (sphereOf grid) site azimuth range in
-      by-test (inWindow window at) (cellNumber (window .columns) (row window at) (column window at)) at position-within
+      by-test (inWindow window at) (marked window at) (cellNumber (window .columns) (row window at) (column window at)) at position-within

@@ -12,6 +12,6 @@ use Rattle.placement.proofs.gate.Placement as the-enum
 
 pub not-inside : (p : Placement) → OneOf (1 ∷ 2 ∷ []) (tagOf the-enum.the-type p) → 4294967295 ≡ entryOf p
 unfolding entryOf
-not-inside (Inside cell x y) t = absurd (⊎-elim (λ e. omega arith) (λ e. omega arith) t)
-not-inside (Outside x y) t = refl
+not-inside (Inside cell x y mark) t = absurd (⊎-elim (λ e. omega arith) (λ e. omega arith) t)
+not-inside (Outside x y mark) t = refl
 not-inside (Refused number) t = refl

@@ -27,7 +27,8 @@ unfolding windowOf
 window-limits (Radolan g) e =
     let known = accepted-radolan g e in
     record {
-      side-positive = omega (arith, known .side-least);
+      side-least = known .side-least;
+      side-most = known .side-most;
       columns-most = known .size .columns-most;
       rows-most = known .size .rows-most;
       corner-x = magnitude-weaken (known .x-limit) (lit≤ tt);
@@ -36,7 +37,8 @@ window-limits (Radolan g) e =
 window-limits (Hrap g) e =
     let known = accepted-hrap g e in
     record {
-      side-positive = lit≤ tt;
+      side-least = lit≤ tt;
+      side-most = lit≤ tt;
       columns-most = known .size .columns-most;
       rows-most = known .size .rows-most;
       corner-x = magnitude-weaken (hrap-corner 401 (known .i-limit)) (lit≤ tt);

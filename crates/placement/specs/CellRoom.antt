@@ -1,12 +1,13 @@
 -- What the cell asks of window and position. Every accepted grid and gate meets it. Assumes nothing.
-use Prim.Native.Nat.{_<_, _≤_}
+use Prim.Native.Nat.{_≤_}
 use Rattle.arithmetic.specs.Magnitude.{Magnitude}
 use Rattle.grid.specs.declared.window.Window.{Window}
 use Rattle.projection.specs.declared.position.Position.{Position}
 
 -- what the cell asks of window and position
 pub record WindowLimits (window : Window) : Type 0 where
-  pub side-positive : 0 < window .side
+  pub side-least : 10000 ≤ window .side
+  pub side-most : window .side ≤ 10000000
   pub columns-most : window .columns ≤ 1500
   pub rows-most : window .rows ≤ 1500
   pub corner-x : Magnitude (window .x) 10000000000

@@ -1,4 +1,5 @@
--- The placement of one gate: its cell and position, or outside and position, or a refusal. Assumes nothing.
+-- The placement of one gate: its cell, position and mark, or outside, position and mark, or a refusal. Assumes nothing.
+use mathlib.Core.Bool.{cond}
 use Prim.Native.Nat.{ℕ, zero, suc}
 use lib.IntN.{ℤ}
 use Rattle.placement.specs.declared.gate.Placement.{Placement}
@@ -22,31 +23,39 @@ placementOf site grid azimuth range =
     unlessRefused (gateRefusal site grid azimuth range)
     (located (windowOf grid) (positionOf (sphereOf grid) site azimuth range))
 
--- ---- document 01's numbers for each case of the answer
+-- ---- the numbers of documents 01 and 02 for each case of the answer
 
 abbrev pub outsideEntry : ℕ
 outsideEntry = 4294967295
 
 -- the ledger entry: the cell, or 4,294,967,295
 unfoldable pub entryOf : Placement → ℕ
-entryOf (Inside cell x y) = cell
-entryOf (Outside x y) = outsideEntry
+entryOf (Inside cell x y mark) = cell
+entryOf (Outside x y mark) = outsideEntry
 entryOf (Refused number) = outsideEntry
 
--- what is told of a gate that is not refused: its entry and its position
+-- the mark, 1 or 0; a refused gate has none
+unfoldable pub markOf : Placement → ℕ
+markOf (Inside cell x y mark) = cond mark 1 0
+markOf (Outside x y mark) = cond mark 1 0
+markOf (Refused number) = 0
+
+-- what is told of a gate that is not refused: its entry, its position and its mark
 pub record PlacedGate : Type 0 where
   pub entry : ℕ
   pub x : ℤ
   pub y : ℤ
+  pub mark : ℕ
 
--- these three numbers, or the refusal number
+-- these four numbers, or the refusal number
 unfoldable pub placementAnswer : Placement → Answer PlacedGate
-placementAnswer (Inside cell x y) = gives (record { entry = cell; x = x; y = y })
-placementAnswer (Outside x y) = gives (record { entry = outsideEntry; x = x; y = y })
+placementAnswer (Inside cell x y mark) = gives (record { entry = cell; x = x; y = y; mark = cond mark 1 0 })
+placementAnswer (Outside x y mark) = gives (record { entry = outsideEntry; x = x; y = y; mark = cond mark 1 0 })
 placementAnswer (Refused number) = refuses number
 
--- those of document 01's rules
+-- those of documents 01 and 02
 unfoldable pub placedGate : Site → Grid → ℕ → ℕ → PlacedGate
 placedGate site grid azimuth range =
     let at = positionOf (sphereOf grid) site azimuth range in
-    record { entry = entryOf (located (windowOf grid) at); x = at .x; y = at .y }
+    let placement = located (windowOf grid) at in
+    record { entry = entryOf placement; x = at .x; y = at .y; mark = markOf placement }

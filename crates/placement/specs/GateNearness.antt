@@ -8,6 +8,6 @@ use Rattle.projection.specs.Nearness.{WithinExact}
 
 -- whenever the answer is a position, it lies within so many centimetres of the exact one
 unfoldable pub PositionWithin : ℕ → Site → Grid → ℕ → ℕ → Placement → Type 0
-PositionWithin bound site grid azimuth range (Inside cell x y) = WithinExact bound site grid azimuth range x y
-PositionWithin bound site grid azimuth range (Outside x y) = WithinExact bound site grid azimuth range x y
+PositionWithin bound site grid azimuth range (Inside cell x y mark) = WithinExact bound site grid azimuth range x y
+PositionWithin bound site grid azimuth range (Outside x y mark) = WithinExact bound site grid azimuth range x y
 PositionWithin bound site grid azimuth range (Refused number) = Unit {0}

@@ -10,7 +10,6 @@ use Rattle.projection.specs.declared.position.RayTerms.{RayTerms}
 use Rattle.limits.specs.declared.site.Site.{Site}
 use Rattle.placement.specs.declared.survey.Survey.{Survey}
 use Rattle.projection.specs.Arc.{arcTerms}
-use Rattle.placement.specs.Gate.{entryOf}
 use Rattle.projection.specs.Position.{siteTerms, rayTerms, positionBy}
 use Rattle.grid.specs.Sphere.{sphereOf}
 use Rattle.projection.specs.Terms.{kLimit, SiteLimits}
@@ -29,13 +28,13 @@ unfoldable pub surveyed : Survey → RayTerms → ℕ → Placement
 surveyed survey ray range =
     located (survey .window) (positionBy (survey .terms) ray (arcTerms (survey .sphere .radius) range) (survey .sphere .k))
 
--- the ledger entry of a gate
-unfoldable pub surveyedEntry : Survey → ℕ → ℕ → ℕ
-surveyedEntry survey azimuth range = entryOf (surveyed survey (rayTerms azimuth) range)
+-- what is told of a gate: its ledger entry (`entryOf`), or its mark (`markOf`)
+unfoldable pub surveyedGate : (Placement → ℕ) → Survey → ℕ → ℕ → ℕ
+surveyedGate told survey azimuth range = told (surveyed survey (rayTerms azimuth) range)
 
--- the entries of a ray's gates: gate g has its centre at first + g x spacing
-unfoldable pub surveyedRay : Survey → ℕ → ℕ → ℕ → ℕ → List ℕ
-surveyedRay survey first spacing azimuth gates = table (λ g. surveyedEntry survey azimuth (first + g * spacing)) gates
+-- the same of a ray's gates: gate g has its centre at first + g x spacing
+unfoldable pub surveyedRay : (Placement → ℕ) → Survey → ℕ → ℕ → ℕ → ℕ → List ℕ
+surveyedRay told survey first spacing azimuth gates = table (λ g. surveyedGate told survey azimuth (first + g * spacing)) gates
 
 -- what is known of the survey of an accepted site and grid
 pub record Surveyed (survey : Survey) : Type 0 where
@@ -45,9 +44,10 @@ pub record Surveyed (survey : Survey) : Type 0 where
   pub site : SiteLimits (survey .terms)
   pub window : WindowLimits (survey .window)
 
--- a ray's gates stand in the ledger from place start up to place end, none beyond the greatest range
-pub record RaySpan (first spacing start end : ℕ) (ledger : List ℕ) : Type 0 where
+-- a ray's gates stand in ledger and marks from place start up to place end, none beyond the greatest range
+pub record RaySpan (first spacing start end : ℕ) (ledger marks : List ℕ) : Type 0 where
   pub start-end : start ≤ end
   pub gates-most : end ≤ start + 1000
   pub end-most : end ≤ length ledger
+  pub marks-most : end ≤ length marks
   pub ranges : (k : ℕ) → k < end → first + (k - start) * spacing ≤ 46000000

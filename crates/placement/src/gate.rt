@@ -5,6 +5,7 @@ use grid::Window;
 use grid::cell_number;
 use grid::in_span;
 use grid::index_of;
+use grid::near_line;
 use limits::Grid;
 use limits::Site;
 use limits::azimuth_accepted;
@@ -26,16 +27,26 @@ ghost use Rattle.projection.specs.Position.{positionOf};
 ghost use Rattle.limits.specs.Accepted.{rangeAccepted, siteAccepted, gridAccepted};
 ghost use Rattle.placement.specs.GateRefusal.{gateRefusal};
 ghost use Rattle.grid.specs.Sphere.{sphereOf};
+ghost use Rattle.grid.specs.Mark.{tolerance};
 ghost use Rattle.placement.specs.Survey.{Surveyed, surveyed};
-ghost use Rattle.grid.specs.Window.{windowOf};
-ghost use Rattle.placement.specs.Located.{located};
+ghost use Rattle.grid.specs.Window.{windowOf, indexOf};
+ghost use Rattle.placement.specs.Located.{marked, located};
 ghost use Rattle.placement.specs.CellRoom.{Reachable};
 ghost use Rattle.projection.specs.Terms.{RayLimits};
 
-// Where a gate lies: inside the grid in a cell, outside the grid, or refused with a number.
+// Where a gate lies: inside the grid in a cell, outside the grid, or refused with a number. Marked where X or Y lies near a line of the grid.
 pub enum Placement {
-    Inside { cell: u32, x: i64, y: i64 },
-    Outside { x: i64, y: i64 },
+    Inside {
+        cell: u32,
+        x: i64,
+        y: i64,
+        mark: bool,
+    },
+    Outside {
+        x: i64,
+        y: i64,
+        mark: bool,
+    },
     Refused(u32),
 }
 
@@ -44,7 +55,7 @@ pub enum Placement {
 pub fn place(site: Site, grid: Grid, azimuth: u32, range: u32) -> Placement
     ensures rule { λ r. ⌜ r ≡ placementOf site grid azimuth range ⌝ }
     ensures numbers { λ r. ⌜ placementAnswer r ≡ answered (gateRefusal site grid azimuth range) (placedGate site grid azimuth range) ⌝ }
-    ensures within_50_centimetres { λ r. ⌜ PositionWithin 50 site grid azimuth range r ⌝ }
+    ensures within_50_centimetres { λ r. ⌜ PositionWithin tolerance site grid azimuth range r ⌝ }
 {
     if !range_accepted(range) {
         return Placement::Refused(3);
@@ -91,15 +102,25 @@ fn cell_at(window: Window, at: Position) -> Placement
     let columns = window.columns;
     let column = index_of(window.x, window.side, x);
     let row = index_of(window.y, window.side, y);
+    let mark = mark_at(window, at, column, row);
     if !in_span(columns, column) {
-        return Placement::Outside { x, y };
+        return Placement::Outside { x, y, mark };
     }
     if !in_span(window.rows, row) {
-        return Placement::Outside { x, y };
+        return Placement::Outside { x, y, mark };
     }
     Placement::Inside {
         cell: cell_number(columns, row, column),
         x,
         y,
+        mark,
     }
+}
+
+// Whether X or Y lies near a line, from the column and the row of the position.
+fn mark_at(window: Window, at: Position, column: i64, row: i64) -> bool
+    requires { ⌜ Reachable window at × (column ≡ indexOf (window .x) (window .side) (at .x)) × (row ≡ indexOf (window .y) (window .side) (at .y)) ⌝ }
+    ensures { λ r. ⌜ r ≡ marked window at ⌝ }
+{
+    near_line(window.x, window.side, at.x, column) || near_line(window.y, window.side, at.y, row)
 }

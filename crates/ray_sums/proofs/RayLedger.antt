@@ -11,6 +11,7 @@ use lib.Seq.{sets, length-take-le}
 use Rattle.arithmetic.proofs.Places.{table-length}
 use Rattle.arithmetic.proofs.SetsLaws.{sets-whole}
 use Rattle.placement.specs.declared.survey.Survey.{Survey}
+use Rattle.placement.specs.Gate.{entryOf}
 use Rattle.placement.specs.Survey.{RaySpan, surveyedRay}
 use Rattle.tally.specs.declared.gates.Weighting.{Weighting}
 use Rattle.tally.specs.LentSums.{Sums}
@@ -24,8 +25,8 @@ use Rattle.ray_sums.specs.RaySums.{RayAddable, AddsAll}
 -- ---- the entries
 
 -- the list that was lent for them, as it was written
-module _ (survey : Survey) (first spacing azimuth : ℕ) (entries : List ℕ) {ledger : List ℕ} (written : ledger ≡ sets entries 0 (surveyedRay survey first spacing azimuth (length entries - 0))) where
-  pub is-ray : ledger ≡ surveyedRay survey first spacing azimuth (length entries)
+module _ (survey : Survey) (first spacing azimuth : ℕ) (entries : List ℕ) {ledger : List ℕ} (written : ledger ≡ sets entries 0 (surveyedRay entryOf survey first spacing azimuth (length entries - 0))) where
+  pub is-ray : ledger ≡ surveyedRay entryOf survey first spacing azimuth (length entries)
   unfolding surveyedRay
   is-ray =
       let all : length entries - 0 ≡ length entries = omega arith in
@@ -36,11 +37,12 @@ module _ (survey : Survey) (first spacing azimuth : ℕ) (entries : List ℕ) {l
   same-gates = ap length is-ray ∙ table-length _ (length entries)
 
 module _ {first spacing : ℕ} {entries values qualities : List ℕ} {sums : Sums} (room : RayAddable first spacing entries values qualities sums) where
-  pub ray-span : RaySpan first spacing 0 (length entries) entries
-  ray-span = record {
+  pub ray-span : {marks : List ℕ} → length marks ≡ 1000 → RaySpan first spacing 0 (length entries) entries marks
+  ray-span marks-length = record {
     start-end = omega arith;
     gates-most = omega (arith, room .gates-most);
     end-most = omega arith;
+    marks-most = omega (arith, room .gates-most);
     ranges = λ k h. let same : k - 0 ≡ k = omega arith in rw same (room .ranges k h);
   }
 

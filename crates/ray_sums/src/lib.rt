@@ -1,4 +1,5 @@
-// The gates of one ray, added onto the sums or taken out of them again. `entries` is room for the ray's ledger, of as many places as it has gates.
+// The gates of one ray, added onto the sums or taken out of them again. `entries` is room for the ray's ledger, of as many places as it has gates; its
+// marks, which no sum is made of, go into an array that is left.
 use placement::Survey;
 use placement::ray_ledger;
 use take_out::take_out_gates;
@@ -6,6 +7,7 @@ use tally::Weighting;
 use tally::add_gates;
 ghost use mathlib.Core.Path.{_≡_};
 ghost use lib.ListN.{length};
+ghost use Rattle.placement.specs.Gate.{entryOf};
 ghost use Rattle.placement.specs.Survey.{Surveyed, surveyedRay};
 ghost use Rattle.tally.specs.LentSums.{sumsHeld, lentSums};
 ghost use Rattle.tally.specs.Tally.{addedSums};
@@ -27,10 +29,20 @@ pub fn add_ray(
     value_sums: &mut [u64],
 ) -> bool
     requires { ⌜ Surveyed survey × RayAddable first spacing (now entries) (now values) (now qualities) (sumsHeld counts «quality_sums» «value_sums») ⌝ }
-    ensures { λ r. ⌜ AddsAll weighting (surveyedRay survey first spacing azimuth (length (now (entries .entry)))) (now (values .entry)) (now (qualities .entry)) (lentSums counts «quality_sums» «value_sums») r ⌝ }
+    ensures { λ r. ⌜ AddsAll weighting (surveyedRay entryOf survey first spacing azimuth (length (now (entries .entry)))) (now (values .entry)) (now (qualities .entry)) (lentSums counts «quality_sums» «value_sums») r ⌝ }
 {
     let gates = entries.len();
-    ray_ledger(survey, azimuth, first, spacing, entries, 0, gates);
+    let mut marks = [0u8; 1000];
+    ray_ledger(
+        survey,
+        azimuth,
+        first,
+        spacing,
+        entries,
+        &mut marks,
+        0,
+        gates,
+    );
     let added = add_gates(
         weighting,
         entries,
@@ -70,13 +82,23 @@ pub fn take_out_ray(
     value_sums: &mut [u64],
 )
     requires { ⌜ Surveyed survey × RayAddable first spacing (now entries) (now values) (now qualities) (sumsHeld counts «quality_sums» «value_sums»)
-        × AddedBefore weighting (surveyedRay survey first spacing azimuth (length (now entries))) (now values) (now qualities) (sumsHeld counts «quality_sums» «value_sums») ⌝ }
+        × AddedBefore weighting (surveyedRay entryOf survey first spacing azimuth (length (now entries))) (now values) (now qualities) (sumsHeld counts «quality_sums» «value_sums») ⌝ }
     ensures { λ _.
         let sums = lentSums counts «quality_sums» «value_sums» in
-        ⌜ sums .entry ≡ addedSums weighting (surveyedRay survey first spacing azimuth (length (now (entries .entry)))) (now (values .entry)) (now (qualities .entry)) (sums .exit) ⌝ }
+        ⌜ sums .entry ≡ addedSums weighting (surveyedRay entryOf survey first spacing azimuth (length (now (entries .entry)))) (now (values .entry)) (now (qualities .entry)) (sums .exit) ⌝ }
 {
     let gates = entries.len();
-    ray_ledger(survey, azimuth, first, spacing, entries, 0, gates);
+    let mut marks = [0u8; 1000];
+    ray_ledger(
+        survey,
+        azimuth,
+        first,
+        spacing,
+        entries,
+        &mut marks,
+        0,
+        gates,
+    );
     take_out_gates(
         weighting,
         entries,

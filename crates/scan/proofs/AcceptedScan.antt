@@ -35,6 +35,7 @@ pub record AcceptedLengths (head : ScanHead) (given : Lengths) : Type 0 where
   pub values-length : given .values ≡ gatesOf head
   pub qualities-length : given .qualities ≡ gatesOf head
   pub ledger-length : given .ledger ≡ gatesOf head
+  pub marks-length : given .marks ≡ gatesOf head
   pub counts-length : given .counts ≡ cellsOf head
   pub quality-sums-length : given .«quality_sums» ≡ cellsOf head
   pub value-sums-length : given .«value_sums» ≡ cellsOf head
@@ -83,13 +84,15 @@ accepted-lengths head given e =
     let value-sums = last-equal _ (given .«value_sums») (cellsOf head) (means .0) in
     let quality-sums = last-equal _ (given .«quality_sums») (cellsOf head) (value-sums .0) in
     let counts = last-equal _ (given .counts) (cellsOf head) (quality-sums .0) in
-    let ledger = last-equal _ (given .ledger) (gatesOf head) (counts .0) in
+    let marks = last-equal _ (given .marks) (gatesOf head) (counts .0) in
+    let ledger = last-equal _ (given .ledger) (gatesOf head) (marks .0) in
     let lists = accepted-lists head (given .azimuths) (given .values) (given .qualities) (ledger .0) in
     record {
       azimuths-length = lists .azimuths-length;
       values-length = lists .values-length;
       qualities-length = lists .qualities-length;
       ledger-length = ledger .1;
+      marks-length = marks .1;
       counts-length = counts .1;
       quality-sums-length = quality-sums .1;
       value-sums-length = value-sums .1;
@@ -109,15 +112,15 @@ unfolding lengthsAccepted
 refused-by-lists head given e = simp e
 
 -- where the other lengths are right, the last one decides
-pub by-last-length : (head : ScanHead) (given : Lengths) → listsAccepted head (given .azimuths) (given .values) (given .qualities) ≡ true → given .ledger ≡ gatesOf head → given .counts ≡ cellsOf head → given .«quality_sums» ≡ cellsOf head → given .«value_sums» ≡ cellsOf head → given .means ≡ cellsOf head → eqb (given .«cell_qualities») (cellsOf head) ≡ lengthsAccepted head given
+pub by-last-length : (head : ScanHead) (given : Lengths) → listsAccepted head (given .azimuths) (given .values) (given .qualities) ≡ true → given .ledger ≡ gatesOf head → given .marks ≡ gatesOf head → given .counts ≡ cellsOf head → given .«quality_sums» ≡ cellsOf head → given .«value_sums» ≡ cellsOf head → given .means ≡ cellsOf head → eqb (given .«cell_qualities») (cellsOf head) ≡ lengthsAccepted head given
 unfolding lengthsAccepted
-by-last-length head given lists ledger counts quality-sums value-sums means =
-    simp (lists, eq-eqb _ _ ledger, eq-eqb _ _ counts, eq-eqb _ _ quality-sums, eq-eqb _ _ value-sums, eq-eqb _ _ means)
+by-last-length head given lists ledger marks counts quality-sums value-sums means =
+    simp (lists, eq-eqb _ _ ledger, eq-eqb _ _ marks, eq-eqb _ _ counts, eq-eqb _ _ quality-sums, eq-eqb _ _ value-sums, eq-eqb _ _ means)
 
 pub lengths-exact : (head : ScanHead) (given : Lengths) → AcceptedLengths head given → lengthsAccepted head given ≡ true
 lengths-exact head given known =
     let lists = sym (by-last-list head (given .azimuths) (given .values) (given .qualities) (known .azimuths-length) (known .values-length)) ∙ eq-eqb _ _ (known .qualities-length) in
-    sym (by-last-length head given lists (known .ledger-length) (known .counts-length) (known .quality-sums-length) (known .value-sums-length) (known .means-length))
+    sym (by-last-length head given lists (known .ledger-length) (known .marks-length) (known .counts-length) (known .quality-sums-length) (known .value-sums-length) (known .means-length))
     ∙ eq-eqb _ _ (known .cell-qualities-length)
 
 -- lent lists that are exact for one scan are so for another with the same head, whose own lists are exact
@@ -132,6 +135,7 @@ exact-for-another scan other lists same own exact =
       values-length = own .values-length;
       qualities-length = own .qualities-length;
       ledger-length = known .ledger-length ∙ gates;
+      marks-length = known .marks-length ∙ gates;
       counts-length = known .counts-length ∙ cells;
       quality-sums-length = known .quality-sums-length ∙ cells;
       value-sums-length = known .value-sums-length ∙ cells;

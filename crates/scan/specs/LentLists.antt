@@ -5,21 +5,23 @@ use denote.Ref.{now}
 use denote.Triple.Both.{Both}
 use Rattle.tally.specs.LentSums.{Sums, Cells, Slice, sumsHeld, cellsHeld, Lent}
 
--- the ledger has a number for each gate
+-- ledger and marks have a number for each gate
 pub record Lists : Type 0 where
   pub ledger : List ℕ
+  pub marks : List ℕ
   pub sums : Sums
   pub cells : Cells
 
-abbrev pub listsHeld : Slice → Slice → Slice → Slice → Slice → Slice → Lists
-listsHeld ledger counts qualitySums valueSums means qualities = record {
+abbrev pub listsHeld : Slice → Slice → Slice → Slice → Slice → Slice → Slice → Lists
+listsHeld ledger marks counts qualitySums valueSums means qualities = record {
   ledger = now ledger;
+  marks = now marks;
   sums = sumsHeld counts qualitySums valueSums;
   cells = cellsHeld means qualities;
 }
 
-abbrev pub lentLists : Lent → Lent → Lent → Lent → Lent → Lent → Both Lists Lists
-lentLists ledger counts qualitySums valueSums means qualities = record {
-  entry = listsHeld (ledger .entry) (counts .entry) (qualitySums .entry) (valueSums .entry) (means .entry) (qualities .entry);
-  exit = listsHeld (ledger .exit) (counts .exit) (qualitySums .exit) (valueSums .exit) (means .exit) (qualities .exit);
+abbrev pub lentLists : Lent → Lent → Lent → Lent → Lent → Lent → Lent → Both Lists Lists
+lentLists ledger marks counts qualitySums valueSums means qualities = record {
+  entry = listsHeld (ledger .entry) (marks .entry) (counts .entry) (qualitySums .entry) (valueSums .entry) (means .entry) (qualities .entry);
+  exit = listsHeld (ledger .exit) (marks .exit) (counts .exit) (qualitySums .exit) (valueSums .exit) (means .exit) (qualities .exit);
 }

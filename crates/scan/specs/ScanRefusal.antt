@@ -30,11 +30,12 @@ listsAccepted head azimuths values qualities =
 unfoldable pub givenExact : Scan → Bool
 givenExact scan = listsAccepted (scan .head) (length (scan .azimuths)) (length (scan .values)) (length (scan .qualities))
 
--- of all lists: the ledger rays x gates too; each cell list columns x rows
+-- of all lists: ledger and marks rays x gates too; each cell list columns x rows
 unfoldable pub lengthsAccepted : ScanHead → Lengths → Bool
 lengthsAccepted head given =
     listsAccepted head (given .azimuths) (given .values) (given .qualities)
     && eqb (given .ledger) (gatesOf head)
+    && eqb (given .marks) (gatesOf head)
     && eqb (given .counts) (cellsOf head)
     && eqb (given .«quality_sums») (cellsOf head)
     && eqb (given .«value_sums») (cellsOf head)
@@ -47,6 +48,7 @@ lengthsOf scan lists = record {
   values = length (scan .values);
   qualities = length (scan .qualities);
   ledger = length (lists .ledger);
+  marks = length (lists .marks);
   counts = length (lists .sums .counts);
   «quality_sums» = length (lists .sums .qualitySums);
   «value_sums» = length (lists .sums .valueSums);

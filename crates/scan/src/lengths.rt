@@ -11,6 +11,7 @@ pub struct Lengths {
     pub values: usize,
     pub qualities: usize,
     pub ledger: usize,
+    pub marks: usize,
     pub counts: usize,
     pub quality_sums: usize,
     pub value_sums: usize,
@@ -42,6 +43,9 @@ pub fn lengths_accepted(head: ScanHead, given: Lengths) -> bool
         return false;
     }
     if given.ledger != gates {
+        return false;
+    }
+    if given.marks != gates {
         return false;
     }
     if given.counts != cells {

@@ -1,4 +1,4 @@
--- The entries of accepted rays: those of the survey are document 01's. Assumes nothing.
+-- What is told of accepted rays' gates, their entries and marks: what the survey gives is what the rules say. Assumes nothing.
 use mathlib.Core.Bool.{true, _&&_}
 use mathlib.Core.List.{List}
 use mathlib.Core.Path.{_≡_}
@@ -12,15 +12,16 @@ use Rattle.arithmetic.proofs.Test.{and-true}
 use Rattle.refusal.specs.Checks.{inRange, firstRefusal}
 use Rattle.limits.specs.Accepted.{rangeAccepted, azimuthAccepted, siteAccepted, gridAccepted}
 use Rattle.projection.specs.Position.{positionOf}
-use Rattle.placement.specs.Gate.{placementOf, unlessRefused, entryOf}
+use Rattle.placement.specs.declared.gate.Placement.{Placement}
+use Rattle.placement.specs.Gate.{placementOf, unlessRefused}
 use Rattle.placement.specs.GateRefusal.{gateRefusal}
-use Rattle.placement.specs.Survey.{surveyOf, surveyed, surveyedEntry}
+use Rattle.placement.specs.Survey.{surveyOf, surveyed, surveyedGate}
 use Rattle.scan.specs.declared.head.ScanHead.{ScanHead}
 use Rattle.scan.specs.Rays.{regularRays}
 use Rattle.scan.specs.ScanRefusal.{centresAccepted}
 use Rattle.scan.proofs.RayLaws.{gates-same}
-use Rattle.scan_ledger.specs.LedgerRoom.{surveyedLedger}
-use Rattle.scan_ledger.specs.ScanLedger.{ledgerOf}
+use Rattle.scan_ledger.specs.LedgerRoom.{surveyedGates}
+use Rattle.scan_ledger.specs.ScanLedger.{gatesTold}
 
 -- the last centre is the farthest
 pub centres-most : (gates first spacing g : ℕ) → centresAccepted gates first spacing ≡ true → g < gates → first + g * spacing ≤ 46000000
@@ -37,13 +38,14 @@ module _ (head : ScanHead) (centres : centresAccepted (head .gates) (head .first
       let range : leb (head .first + g * head .spacing) 46000000 ≡ true = le-leb _ _ (centres-most (head .gates) (head .first) (head .spacing) g centres h) in
       rw (range, site, grid, good)
 
-  -- a gate that is not refused has the entry of its survey
-  accepted-entry : (azimuth range : ℕ) → gateRefusal (head .site) (head .grid) azimuth range ≡ 0 → surveyedEntry (surveyOf (head .site) (head .grid)) azimuth range ≡ entryOf (placementOf (head .site) (head .grid) azimuth range)
-  unfolding surveyedEntry surveyed surveyOf placementOf unlessRefused positionOf
-  accepted-entry azimuth range e = rw e
+  module _ (told : Placement → ℕ) where
+    -- a gate that is not refused is told by its survey
+    accepted-gate : (azimuth range : ℕ) → gateRefusal (head .site) (head .grid) azimuth range ≡ 0 → surveyedGate told (surveyOf (head .site) (head .grid)) azimuth range ≡ told (placementOf (head .site) (head .grid) azimuth range)
+    unfolding surveyedGate surveyed surveyOf placementOf unlessRefused positionOf
+    accepted-gate azimuth range e = rw e
 
-  pub accepted-ledger : (azimuths : List ℕ) → allOf azimuthAccepted azimuths ≡ true → surveyedLedger (surveyOf (head .site) (head .grid)) (head .first) (head .spacing) (regularRays (head .gates) azimuths) ≡ ledgerOf head (regularRays (head .gates) azimuths)
-  unfolding ledgerOf surveyedLedger
-  accepted-ledger azimuths good =
-      gates-same _ _ _ _ (head .gates) azimuthAccepted azimuths good
-      (λ azimuth g a h. accepted-entry azimuth (head .first + g * head .spacing) (gate-accepted azimuth g a h))
+    pub accepted-gates : (azimuths : List ℕ) → allOf azimuthAccepted azimuths ≡ true → surveyedGates told (surveyOf (head .site) (head .grid)) (head .first) (head .spacing) (regularRays (head .gates) azimuths) ≡ gatesTold told head (regularRays (head .gates) azimuths)
+    unfolding gatesTold surveyedGates
+    accepted-gates azimuths good =
+        gates-same _ _ _ _ (head .gates) azimuthAccepted azimuths good
+        (λ azimuth g a h. accepted-gate azimuth (head .first + g * head .spacing) (gate-accepted azimuth g a h))

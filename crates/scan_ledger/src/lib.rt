@@ -1,11 +1,12 @@
-// The ledger of rays, one after the other, from a place on.
+// The ledger of rays and their marks, one ray after the other, from a place on.
 use placement::Survey;
 use placement::ray_ledger;
 ghost use mathlib.Core.Path.{_≡_};
 ghost use lib.Seq.{sets};
+ghost use Rattle.placement.specs.Gate.{entryOf, markOf};
 ghost use Rattle.placement.specs.Survey.{Surveyed};
 ghost use Rattle.scan.specs.Rays.{regularRays};
-ghost use Rattle.scan_ledger.specs.LedgerRoom.{RaysSpan, surveyedLedger};
+ghost use Rattle.scan_ledger.specs.LedgerRoom.{RaysSpan, surveyedGates};
 
 // For our own crates: they have tested the scan.
 pub fn scan_ledger(
@@ -15,10 +16,12 @@ pub fn scan_ledger(
     spacing: u32,
     azimuths: &[u32],
     ledger: &mut [u32],
+    marks: &mut [u8],
     from: usize,
 )
-    requires { ⌜ Surveyed survey × RaysSpan gates first spacing from (now azimuths) (now ledger) ⌝ }
-    ensures { λ _. ⌜ now (ledger .exit) ≡ sets (now (ledger .entry)) from (surveyedLedger survey first spacing (regularRays gates (now (azimuths .entry)))) ⌝ }
+    requires { ⌜ Surveyed survey × RaysSpan gates first spacing from (now azimuths) (now ledger) (now marks) ⌝ }
+    ensures entries { λ _. ⌜ now (ledger .exit) ≡ sets (now (ledger .entry)) from (surveyedGates entryOf survey first spacing (regularRays gates (now (azimuths .entry)))) ⌝ }
+    ensures marks { λ _. ⌜ now (marks .exit) ≡ sets (now (marks .entry)) from (surveyedGates markOf survey first spacing (regularRays gates (now (azimuths .entry)))) ⌝ }
 {
     let step = gates as usize;
     let mut start = from;
@@ -30,6 +33,7 @@ pub fn scan_ledger(
             first,
             spacing,
             ledger,
+            marks,
             start,
             start + step,
         );

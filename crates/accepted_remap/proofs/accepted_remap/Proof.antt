@@ -1,4 +1,4 @@
--- `accepted_remap::accepted_remap` meets its contract, step by step: survey, ledger, cleared sums, tally, published cells. Assumes nothing.
+-- `accepted_remap::accepted_remap` meets its contract, step by step: survey, ledger and marks, cleared sums, tally, published cells. Assumes nothing.
 use mathlib.Core.Path.{_≡_, _∙_}
 use Prim.Native.Nat.{ℕ, _≤_}
 use native.Mathlib.Omega.{arith}
@@ -9,7 +9,7 @@ use Rattle.accepted_remap.specs.FilledLists.{filledLists}
 use Rattle.scan.specs.Scan.{Scan, scanHeld}
 use Rattle.tally.specs.Tally.{cleared}
 use Rattle.scan.proofs.AcceptedScan.{AcceptedScan, accepted-scan}
-use Rattle.accepted_remap.proofs.AcceptedRemap.{is-surveyed, rays-span, ledger-is, addable, sums-are, publishable, cells-are}
+use Rattle.accepted_remap.proofs.AcceptedRemap.{is-surveyed, rays-span, ledger-is, marks-are, addable, sums-are, publishable, cells-are}
 use borrow.Author.Needs.{needs}
 use Rattle.accepted_remap.proofs.accepted_remap.Statement.{statement}
 use Rattle.accepted_remap.proofs.accepted_remap.Tie as tie
@@ -17,13 +17,13 @@ use Rattle.accepted_remap.proofs.accepted_remap.Tie as tie
 -- ---- from each step back to the one before it
 
 abbrev at-start : tie.After-survey-of → tie.Start
-at-start c = c .before .before .before .before .before .before .before .before .before .before .before
+at-start c = c .before .before .before .before .before .before .before .before .before .before .before .before
 
 abbrev at-survey : tie.After-scan-ledger → tie.After-survey-of
-at-survey c = c .before .before
+at-survey c = c .before .before .before
 
 abbrev at-ledger : tie.After-clear-sums → tie.After-scan-ledger
-at-ledger c = c .before .before .before .before .before .before
+at-ledger c = c .before .before .before .before .before .before .before .before
 
 abbrev at-clear : tie.After-add-gates → tie.After-clear-sums
 at-clear c = c .before .before .before .before .before .before .before .before .before .before .before
@@ -40,14 +40,14 @@ abbrev scan : tie.Start → Scan
 scan s = scanHeld (s .args .head) (s .args .azimuths) (s .args .values) (s .args .qualities)
 
 abbrev lists : tie.Start → Lists
-lists s = listsHeld (s .args .ledger) (s .args .counts) (s .args .quality-sums) (s .args .value-sums) (s .args .means) (s .args .cell-qualities)
+lists s = listsHeld (s .args .ledger) (s .args .marks) (s .args .counts) (s .args .quality-sums) (s .args .value-sums) (s .args .means) (s .args .cell-qualities)
 
 good : (s : tie.Start) → AcceptedScan (scan s) (lists s)
 good s = accepted-scan (scan s) (lists s) (s .pre)
 
 -- a value of 16 bits
 value-most : (c : tie.After-survey-of) (k : ℕ) → getD (at-start c .args .values .now) k 0 ≤ 65535
-value-most c k = omega (arith, c .before .before .before .before .before .before .before .before .before .shared-slice-known2 .given k)
+value-most c k = omega (arith, c .before .before .before .before .before .before .before .before .before .before .shared-slice-known2 .given k)
 
 -- ---- what each step leaves
 
@@ -67,7 +67,10 @@ cells-published c =
     record { means = last .0; qualities = last .1 .0 }
 
 ledger-written : (c : tie.After-scan-ledger) → c .scan-ledger .last .1 .1 .1 .1 .1 .0 ≡ filledLists (scan (at-start (at-survey c))) .ledger
-ledger-written c = rw (at-survey c .survey-of .ensures) at (c .scan-ledger .ensures) ∙ ledger-is (good (at-start (at-survey c)))
+ledger-written c = rw (at-survey c .survey-of .ensures) at (c .scan-ledger .ensures .0) ∙ ledger-is (good (at-start (at-survey c)))
+
+marks-written : (c : tie.After-scan-ledger) → c .scan-ledger .last .1 .1 .1 .1 .1 .1 .0 ≡ filledLists (scan (at-start (at-survey c))) .marks
+marks-written c = rw (at-survey c .survey-of .ensures) at (c .scan-ledger .ensures .1) ∙ marks-are (good (at-start (at-survey c)))
 
 cleared-are : (c : tie.After-clear-sums) → sums-cleared c ≡ cleared (lists (start c) .sums)
 cleared-are c = c .clear-sums .ensures
@@ -83,12 +86,12 @@ cells-written c =
     c .publish .ensures ∙ cells-are (good (start (at-clear t))) (sums-written t) (value-most (at-survey (at-ledger (at-clear t))))
 
 survey-of-requires : tie.Need-survey-of-requires
-survey-of-requires c κs = let g = good (c .before .before .before .before .before .before .before .before .before .before) in (g .site, g .grid)
+survey-of-requires c κs = let g = good (c .before .before .before .before .before .before .before .before .before .before .before) in (g .site, g .grid)
 
 scan-ledger-requires : tie.Need-scan-ledger-requires
 scan-ledger-requires c κs =
-    let s = c .before .before .before .before .before .before .before .before .before .before .before .before in
-    (rw (c .before .survey-of .ensures) (is-surveyed (good s)), rays-span (good s))
+    let s = c .before .before .before .before .before .before .before .before .before .before .before .before .before .before in
+    (rw (c .before .before .survey-of .ensures) (is-surveyed (good s)), rays-span (good s))
 
 clear-sums-requires : tie.Need-clear-sums-requires
 clear-sums-requires c κs = search needs
@@ -122,11 +125,14 @@ same-length-5 c = search needs
 same-length-6 : tie.Need-same-length-6
 same-length-6 c = search needs
 
+same-length-7 : tie.Need-same-length-7
+same-length-7 c = search needs
+
 returns : tie.Need-returns
 returns c =
     let p = c .before .before .before .before in
     let t = at-sums p in
-    λ i. record { ledger = ledger-written (at-ledger (at-clear t)) i; sums = sums-written t i; cells = cells-written p i }
+    λ i. record { ledger = ledger-written (at-ledger (at-clear t)) i; marks = marks-written (at-ledger (at-clear t)) i; sums = sums-written t i; cells = cells-written p i }
 
 pub accepted-remap-spec : {M : Type 1} → statement M
 accepted-remap-spec =
@@ -143,4 +149,5 @@ accepted-remap-spec =
     same-length-4
     same-length-5
     same-length-6
+    same-length-7
     returns)

@@ -1,5 +1,5 @@
 -- `ray_sums::add_ray` meets its contract: where a gate has no room, those before it are taken out again. Assumes nothing.
-use mathlib.Core.Path.{sym, _∙_}
+use mathlib.Core.Path.{refl, sym, _∙_}
 use native.Mathlib.Omega.{arith}
 use lib.Seq.{length-take-le}
 use Rattle.ray_sums.proofs.RayLedger.{is-ray, same-gates, ray-span, ray-addable, all-of-them, first-added, none-of-them}
@@ -7,10 +7,11 @@ use borrow.Author.Needs.{needs}
 use Rattle.ray_sums.proofs.add_ray.Statement.{statement}
 use Rattle.ray_sums.proofs.add_ray.Tie as tie
 
+slice-aggregate-ray-ledger : tie.Need-slice-aggregate-ray-ledger
+slice-aggregate-ray-ledger c = search needs
+
 ray-ledger-requires : tie.Need-ray-ledger-requires
-ray-ledger-requires c κs =
-    let asked = c .before .before .before .before .before .before .before .pre in
-    (asked .0, ray-span (asked .1))
+ray-ledger-requires c κs = (c .before .before .before .before .before .before .before .before .pre .0, ray-span (c .before .before .before .before .before .before .before .before .pre .1) refl)
 
 add-gates-requires : tie.Need-add-gates-requires
 add-gates-requires c κs = search needs
@@ -29,8 +30,8 @@ same-length-4 c = search needs
 
 returns : tie.Need-returns
 returns c =
-    let a = c .before .before .before .before .before .before .before .before .before .before .before .before .before .before .before .before .before .before .before .before .before .before .args in
-    let written = c .before .before .before .before .before .before .before .before .before .before .before .before .before .before .ray-ledger .ensures in
+    let a = c .before .before .before .before .before .before .before .before .before .before .before .before .before .before .before .before .before .before .before .before .before .before .before .before .args in
+    let written = c .before .before .before .before .before .before .before .before .before .before .before .before .before .before .before .ray-ledger .ensures .0 in
     all-of-them (c .before .before .before .before .before .before .before .add-gates .ensures) (is-ray (a .survey) (a .first) (a .spacing) (a .azimuth) (a .entries .now) written) (c .if1 .taken ∙ sym (same-gates (a .survey) (a .first) (a .spacing) (a .azimuth) (a .entries .now) written))
 
 slice-reshare-prefix-take-out-gates : tie.Need-slice-reshare-prefix-take-out-gates
@@ -41,18 +42,21 @@ slice-aggregate-take-out-gates c = sym (length-take-le _ _ (c .before .before .b
 
 slice-aggregate-take-out-gates-2 : tie.Need-slice-aggregate-take-out-gates-2
 slice-aggregate-take-out-gates-2 c =
-    let s = c .before .before .before .before .before .before .before .before .before .before .before .before .before .before .before .before .before .before .before .before .before .before .before .before in
-    let a = s .args in sym (length-take-le _ _ (omega (arith, c .before .before .before .before .before .before .before .before .before .add-gates .ensures .gates-most, same-gates (a .survey) (a .first) (a .spacing) (a .azimuth) (a .entries .now) (c .before .before .before .before .before .before .before .before .before .before .before .before .before .before .before .before .ray-ledger .ensures), s .pre .1 .values-length)))
+    let s = c .before .before .before .before .before .before .before .before .before .before .before .before .before .before .before .before .before .before .before .before .before .before .before .before .before .before in
+    let a = s .args in
+    sym (length-take-le _ _ (omega (arith, c .before .before .before .before .before .before .before .before .before .add-gates .ensures .gates-most, same-gates (a .survey) (a .first) (a .spacing) (a .azimuth) (a .entries .now) (c .before .before .before .before .before .before .before .before .before .before .before .before .before .before .before .before .before .ray-ledger .ensures .0), s .pre .1 .values-length)))
 
 slice-aggregate-take-out-gates-3 : tie.Need-slice-aggregate-take-out-gates-3
 slice-aggregate-take-out-gates-3 c =
-    let s = c .before .before .before .before .before .before .before .before .before .before .before .before .before .before .before .before .before .before .before .before .before .before .before .before .before in
-    let a = s .args in sym (length-take-le _ _ (omega (arith, c .before .before .before .before .before .before .before .before .before .before .add-gates .ensures .gates-most, same-gates (a .survey) (a .first) (a .spacing) (a .azimuth) (a .entries .now) (c .before .before .before .before .before .before .before .before .before .before .before .before .before .before .before .before .before .ray-ledger .ensures), s .pre .1 .qualities-length)))
+    let s = c .before .before .before .before .before .before .before .before .before .before .before .before .before .before .before .before .before .before .before .before .before .before .before .before .before .before .before in
+    let a = s .args in
+    sym (length-take-le _ _ (omega (arith, c .before .before .before .before .before .before .before .before .before .before .add-gates .ensures .gates-most, same-gates (a .survey) (a .first) (a .spacing) (a .azimuth) (a .entries .now) (c .before .before .before .before .before .before .before .before .before .before .before .before .before .before .before .before .before .before .ray-ledger .ensures .0), s .pre .1 .qualities-length)))
 
 take-out-gates-requires : tie.Need-take-out-gates-requires
 take-out-gates-requires c κs =
-    let s = c .before .before .before .before .before .before .before .before .before .before .before .before .before .before .before .before .before .before .before .before .before .before .before .before .before .before .before .before in
-    let a = s .args in first-added (c .before .before .before .before .before .before .before .before .before .before .before .before .before .add-gates .ensures) (ray-addable (s .pre .1) (same-gates (a .survey) (a .first) (a .spacing) (a .azimuth) (a .entries .now) (c .before .before .before .before .before .before .before .before .before .before .before .before .before .before .before .before .before .before .before .before .ray-ledger .ensures)))
+    let s = c .before .before .before .before .before .before .before .before .before .before .before .before .before .before .before .before .before .before .before .before .before .before .before .before .before .before .before .before .before .before in
+    let a = s .args in
+    first-added (c .before .before .before .before .before .before .before .before .before .before .before .before .before .add-gates .ensures) (ray-addable (s .pre .1) (same-gates (a .survey) (a .first) (a .spacing) (a .azimuth) (a .entries .now) (c .before .before .before .before .before .before .before .before .before .before .before .before .before .before .before .before .before .before .before .before .before .ray-ledger .ensures .0)))
 
 same-length-5 : tie.Need-same-length-5
 same-length-5 c = search needs
@@ -68,14 +72,15 @@ same-length-8 c = search needs
 
 returns-2 : tie.Need-returns-2
 returns-2 c =
-    let a = c .before .before .before .before .before .before .before .before .before .before .before .before .before .before .before .before .before .before .before .before .before .before .before .before .before .before .before .before .before .before .before .before .before .before .before .args in
-    let written = c .before .before .before .before .before .before .before .before .before .before .before .before .before .before .before .before .before .before .before .before .before .before .before .before .before .before .before .ray-ledger .ensures in
+    let a = c .before .before .before .before .before .before .before .before .before .before .before .before .before .before .before .before .before .before .before .before .before .before .before .before .before .before .before .before .before .before .before .before .before .before .before .before .before .args in
+    let written = c .before .before .before .before .before .before .before .before .before .before .before .before .before .before .before .before .before .before .before .before .before .before .before .before .before .before .before .before .ray-ledger .ensures .0 in
     none-of-them (c .before .before .before .before .before .before .before .before .before .before .before .before .before .before .before .before .before .before .before .before .add-gates .ensures) (is-ray (a .survey) (a .first) (a .spacing) (a .azimuth) (a .entries .now) written) (λ e. c .before .before .before .before .before .before .before .before .before .before .before .before .before .if1 .left (e ∙ same-gates (a .survey) (a .first) (a .spacing) (a .azimuth) (a .entries .now) written)) (c .before .before .before .before .before .before .take-out-gates .ensures)
 
 pub add-ray-spec : {M : Type 1} → statement M
 add-ray-spec =
     tie.close
     (tie.spec
+    slice-aggregate-ray-ledger
     ray-ledger-requires
     add-gates-requires
     same-length

@@ -33,10 +33,10 @@ abbrev start-row : tie.After-index-of2 → tie.Start
 start-row c = c .before .before .before .before .before .before
 
 abbrev start-in-columns : tie.After-in-span → tie.Start
-start-in-columns c = c .before .before .before .before .before .before .before
+start-in-columns c = c .before .before .before .before .before .before .before .before
 
 abbrev start-in-rows : tie.After-in-span2 → tie.Start
-start-in-rows c = c .before .before .before .before .before .before .before .before .before
+start-in-rows c = c .before .before .before .before .before .before .before .before .before .before
 
 -- ---- column and row
 
@@ -60,19 +60,25 @@ row-is c =
     read-back (simp (toZ-ofZ, fits64 (s .pre .limits .corner-y) tt, fits64 (s .pre .y-limit) tt) at (c .index-of2 .ensures))
     (row-fits (s .args .window) (s .args .at) (s .pre))
 
+-- ---- the mark
+
+mark-at-requires : tie.Need-mark-at-requires
+unfolding column row
+mark-at-requires c κs = (c .before .before .before .before .before .before .pre, column-is (c .before .before), row-is c)
+
 -- ---- the two tests
 
 in-span-requires : tie.Need-in-span-requires
 in-span-requires c κs = search needs
 
 column-tested : (c : tie.After-in-span) → c .in-span .result ≡ inSpan (start-in-columns c .args .window .columns) (column (start-in-columns c .args .window) (start-in-columns c .args .at))
-column-tested c = rw (column-is (c .before .before .before)) at (c .in-span .ensures)
+column-tested c = rw (column-is (c .before .before .before .before)) at (c .in-span .ensures)
 
 in-span-requires-2 : tie.Need-in-span-requires-2
 in-span-requires-2 c κs = search needs
 
 row-tested : (c : tie.After-in-span2) → c .in-span2 .result ≡ inSpan (start-in-rows c .args .window .rows) (row (start-in-rows c .args .window) (start-in-rows c .args .at))
-row-tested c = rw (row-is (c .before .before .before)) at (c .in-span2 .ensures)
+row-tested c = rw (row-is (c .before .before .before .before)) at (c .in-span2 .ensures)
 
 -- ---- the three answers
 
@@ -80,7 +86,7 @@ returns : tie.Need-returns
 unfolding located inWindow
 returns c =
     let s = start-in-columns (c .before) in
-    simp (toZ-ofZ, fits64 (s .pre .x-limit) tt, fits64 (s .pre .y-limit) tt, sym (column-tested (c .before)) ∙ not-true _ (c .if1 .taken))
+    simp (toZ-ofZ, fits64 (s .pre .x-limit) tt, fits64 (s .pre .y-limit) tt, sym (column-tested (c .before)) ∙ not-true _ (c .if1 .taken), c .before .before .mark-at .ensures)
 
 column-inside : (c : tie.After-in-span2) → inSpan (start-in-rows c .args .window .columns) (column (start-in-rows c .args .window) (start-in-rows c .args .at)) ≡ true
 column-inside c = sym (column-tested (c .before .before)) ∙ not-false _ (c .before .if1 .left)
@@ -89,12 +95,12 @@ returns-2 : tie.Need-returns-2
 unfolding located inWindow
 returns-2 c =
     let s = start-in-rows (c .before) in
-    simp (toZ-ofZ, fits64 (s .pre .x-limit) tt, fits64 (s .pre .y-limit) tt, column-inside (c .before), sym (row-tested (c .before)) ∙ not-true _ (c .if2 .taken))
+    simp (toZ-ofZ, fits64 (s .pre .x-limit) tt, fits64 (s .pre .y-limit) tt, column-inside (c .before), sym (row-tested (c .before)) ∙ not-true _ (c .if2 .taken), c .before .before .before .before .mark-at .ensures)
 
 cell-number-requires : tie.Need-cell-number-requires
 cell-number-requires c κs =
     let s = start-in-rows (c .before) in
-    rw (row-is (c .before .before .before .before), column-is (c .before .before .before .before .before .before)) (
+    rw (row-is (c .before .before .before .before .before), column-is (c .before .before .before .before .before .before .before)) (
       s .pre .limits .columns-most,
       in-span-wider (s .args .window .rows) 1500 _ (s .pre .limits .rows-most) (sym (row-tested (c .before)) ∙ not-false _ (c .if2 .left)),
       in-span-wider (s .args .window .columns) 1500 _ (s .pre .limits .columns-most) (column-inside (c .before)),
@@ -104,9 +110,9 @@ returns-3 : tie.Need-returns-3
 unfolding located inWindow
 returns-3 c =
     let s = start-in-rows (c .before .before) in
-    let cell = rw (row-is (c .before .before .before .before .before), column-is (c .before .before .before .before .before .before .before)) at (c .cell-number .ensures) in
+    let cell = rw (row-is (c .before .before .before .before .before .before), column-is (c .before .before .before .before .before .before .before .before)) at (c .cell-number .ensures) in
     simp
-    (toZ-ofZ, fits64 (s .pre .x-limit) tt, fits64 (s .pre .y-limit) tt, column-inside (c .before .before), sym (row-tested (c .before .before)) ∙ not-false _ (c .before .if2 .left), cell)
+    (toZ-ofZ, fits64 (s .pre .x-limit) tt, fits64 (s .pre .y-limit) tt, column-inside (c .before .before), sym (row-tested (c .before .before)) ∙ not-false _ (c .before .if2 .left), cell, c .before .before .before .before .before .mark-at .ensures)
 
 pub cell-at-spec : {M : Type 1} → statement M
 cell-at-spec =
@@ -114,6 +120,7 @@ cell-at-spec =
     (tie.spec
     index-of-requires
     index-of-requires-2
+    mark-at-requires
     in-span-requires
     returns
     in-span-requires-2

@@ -29,19 +29,24 @@ returns-2 : tie.Need-returns-2
 returns-2 c = refused-lengths _ _ (λ known. c .if2 .taken (known .ledger-length ∙ sym (c .before .before .before .before .before .gates-of .ensures)))
 
 returns-3 : tie.Need-returns-3
-returns-3 c = refused-lengths _ _ (λ known. c .if3 .taken (known .counts-length ∙ sym (c .before .before .before .before .before .before .cells-of .ensures)))
+returns-3 c = refused-lengths _ _ (λ known. c .if3 .taken (known .marks-length ∙ sym (c .before .before .before .before .before .before .before .gates-of .ensures)))
 
 returns-4 : tie.Need-returns-4
-returns-4 c = refused-lengths _ _ (λ known. c .if4 .taken (known .quality-sums-length ∙ sym (c .before .before .before .before .before .before .before .before .cells-of .ensures)))
+returns-4 c = refused-lengths _ _ (λ known. c .if4 .taken (known .counts-length ∙ sym (c .before .before .before .before .before .before .before .before .cells-of .ensures)))
 
 returns-5 : tie.Need-returns-5
-returns-5 c = refused-lengths _ _ (λ known. c .if5 .taken (known .value-sums-length ∙ sym (c .before .before .before .before .before .before .before .before .before .before .cells-of .ensures)))
+returns-5 c = refused-lengths _ _ (λ known. c .if5 .taken (known .quality-sums-length ∙ sym (c .before .before .before .before .before .before .before .before .before .before .cells-of .ensures)))
 
 returns-6 : tie.Need-returns-6
-returns-6 c = refused-lengths _ _ (λ known. c .if6 .taken (known .means-length ∙ sym (c .before .before .before .before .before .before .before .before .before .before .before .before .cells-of .ensures)))
+returns-6 c = refused-lengths _ _ (λ known. c .if6 .taken (known .value-sums-length ∙ sym (c .before .before .before .before .before .before .before .before .before .before .before .before .cells-of .ensures)))
 
 returns-7 : tie.Need-returns-7
-returns-7 c = let sixth = c .before in
+returns-7 c = refused-lengths _ _ (λ known. c .if7 .taken (known .means-length ∙ sym (c .before .before .before .before .before .before .before .before .before .before .before .before .before .before .cells-of .ensures)))
+
+returns-8 : tie.Need-returns-8
+returns-8 c =
+    let seventh = c .before in
+    let sixth = seventh .before .before in
     let fifth = sixth .before .before in
     let fourth = fifth .before .before in
     let third = fourth .before .before in
@@ -50,7 +55,7 @@ returns-7 c = let sixth = c .before in
     let cells = first .before .before .cells-of .ensures in
     let gates = first .before .before .before .gates-of .ensures in
     ap (eqb _) cells
-    ∙ by-last-length _ _ (lists-passed first) (second .if2 .left ∙ gates) (third .if3 .left ∙ cells) (fourth .if4 .left ∙ cells) (fifth .if5 .left ∙ cells) (sixth .if6 .left ∙ cells)
+    ∙ by-last-length _ _ (lists-passed first) (second .if2 .left ∙ gates) (third .if3 .left ∙ gates) (fourth .if4 .left ∙ cells) (fifth .if5 .left ∙ cells) (sixth .if6 .left ∙ cells) (seventh .if7 .left ∙ cells)
 
 pub lengths-accepted-spec : {M : Type 1} → statement M
 lengths-accepted-spec =
@@ -65,4 +70,5 @@ lengths-accepted-spec =
     returns-4
     returns-5
     returns-6
-    returns-7)
+    returns-7
+    returns-8)
