@@ -1,4 +1,4 @@
-/* Reads a scan record from standard input and prints its grid, as the program sheet does, then its ledger. */
+/* Reads a scan record from standard input and prints its grid, as the program sheet does, then its ledger with the marks. */
 #include <inttypes.h>
 #include <stdio.h>
 #include <stdlib.h>
@@ -19,7 +19,7 @@ struct grid {
     uint32_t *ledger, *counts, *quality_sums;
     uint64_t *value_sums;
     uint16_t *means;
-    uint8_t *cell_qualities;
+    uint8_t *marks, *cell_qualities;
 };
 
 static void *list(size_t numbers, size_t size)
@@ -58,13 +58,14 @@ static uint32_t remap(const struct scan *scan, struct grid *grid)
 {
     size_t rays = (size_t)scan->head.rays, gates = gates_of(scan), cells = cells_of(scan);
     grid->ledger = list(gates, sizeof *grid->ledger);
+    grid->marks = list(gates, sizeof *grid->marks);
     grid->counts = list(cells, sizeof *grid->counts);
     grid->quality_sums = list(cells, sizeof *grid->quality_sums);
     grid->value_sums = list(cells, sizeof *grid->value_sums);
     grid->means = list(cells, sizeof *grid->means);
     grid->cell_qualities = list(cells, sizeof *grid->cell_qualities);
     return uldrevin_remap(&scan->head, scan->azimuths, rays, scan->values, gates, scan->qualities, gates,
-                          grid->ledger, gates, grid->counts, cells, grid->quality_sums, cells,
+                          grid->ledger, gates, grid->marks, gates, grid->counts, cells, grid->quality_sums, cells,
                           grid->value_sums, cells, grid->means, cells, grid->cell_qualities, cells);
 }
 
@@ -93,9 +94,9 @@ static void print_ledger(const struct scan *scan, const struct grid *grid)
     printf("ledger\n");
     for (size_t k = 0; k < gates_of(scan); k++)
         if (grid->ledger[k] == ULDREVIN_OUTSIDE)
-            printf("%zu %zu outside\n", k / gates, k % gates);
+            printf("%zu %zu outside %u\n", k / gates, k % gates, grid->marks[k]);
         else
-            printf("%zu %zu %" PRIu32 "\n", k / gates, k % gates, grid->ledger[k]);
+            printf("%zu %zu %" PRIu32 " %u\n", k / gates, k % gates, grid->ledger[k], grid->marks[k]);
 }
 
 int main(void)

@@ -1,4 +1,4 @@
-"""Reads a scan record from standard input, and prints its sheet and its ledger.
+"""Reads a scan record from standard input, and prints its sheet and its ledger with the marks.
 
     python3 examples/first_grid.py < examples/hrap.scan
 """
@@ -19,10 +19,10 @@ def print_sheet(grid, gates, remapped):
             print(cell % grid.columns, cell // grid.columns, means[cell], qualities[cell], count)
 
 
-def print_ledger(gates_in_ray, ledger):
+def print_ledger(gates_in_ray, ledger, marks):
     print("ledger")
-    for gate, cell in enumerate(ledger):
-        print(gate // gates_in_ray, gate % gates_in_ray, "outside" if cell == uldrevin.OUTSIDE else cell)
+    for gate, (cell, mark) in enumerate(zip(ledger, marks)):
+        print(gate // gates_in_ray, gate % gates_in_ray, "outside" if cell == uldrevin.OUTSIDE else cell, mark)
 
 
 def main():
@@ -32,9 +32,9 @@ def main():
         print("refused", refusal.number)
         return 1
     remapped = uldrevin.remap(*scan)
-    ledger = uldrevin.flat(remapped.ledger)
+    ledger, marks = uldrevin.flat(remapped.ledger), uldrevin.flat(remapped.marks)
     print_sheet(scan.grid, len(ledger), remapped)
-    print_ledger(len(ledger) // len(scan.azimuths), ledger)
+    print_ledger(len(ledger) // len(scan.azimuths), ledger, marks)
     return 0
 
 

@@ -127,7 +127,7 @@ def gate_line(scan, place):
 def ledger_lines(scan, remapped, cell):
     """The gates of the cell, and how its mean and quality come from them."""
     places = [place for place, entry in enumerate(flat(remapped.ledger)) if entry == cell]
-    count, quality_sum, value_sum, mean, quality = (flat(cells)[cell] for cells in remapped[1:])
+    count, quality_sum, value_sum, mean, quality = (flat(cells)[cell] for cells in remapped[2:])
     return [
         f"Column {cell % SIDE_CELLS}, row {cell // SIDE_CELLS}: ledger entry {cell}",
         "",

@@ -9,7 +9,7 @@ show() { printf '$ %s\n' "$1"; eval "$1"; }
 say 'The sheet of a shower: the grid, the gates, then column, row, mean, quality and count of each cell.'
 show 'target/bin/sheet < examples/hrap.scan'
 say 'Column 0, row 1 has the mean 434 and the count 5. The ledger has the gates that lie in it, with their positions:'
-say 'ray gate azimuth range value quality x y column row'
+say 'ray gate azimuth range value quality x y column row mark'
 show "target/bin/ledger < examples/hrap.scan | awk '\$9 == 0 && \$10 == 1'"
 say '65534 is no echo and counts as 0, 65535 is not measured and does not count:'
 say '(73 + 0 + 625 + 720 + 756) / 5 = 2174 / 5, which is 434 and 4 left over; a mean is never rounded upwards.'
@@ -18,3 +18,8 @@ say 'beyond. Cut towards zero, their column would be 0, and their rain would cou
 show "target/bin/ledger < examples/hrap.scan | awk '\$1 == 9 && \$2 >= 3 && \$2 <= 9'"
 say 'Gate 5 of that ray, placed again by itself:'
 show 'target/bin/gate 353300 -972800 2700000 550000 hrap 573 320 6 5'
+say 'The last field is the mark: 1 for a gate 0 to 49 centimetres east or north of an edge line of cells, or 1 to 50 west'
+say 'or south of it. The number of marked gates in this scan:'
+show "target/bin/ledger < examples/hrap.scan | awk '\$NF == 1' | wc -l"
+say 'At 5.45 km the same ray would have a marked gate, 43 centimetres west of the west edge:'
+show 'target/bin/gate 353300 -972800 2700000 545000 hrap 573 320 6 5'

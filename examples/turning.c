@@ -19,7 +19,7 @@ struct grid {
     uint32_t *ledger, *counts, *quality_sums;
     uint64_t *value_sums;
     uint16_t *means;
-    uint8_t *cell_qualities;
+    uint8_t *marks, *cell_qualities;
 };
 
 static void *list(size_t numbers, size_t size)
@@ -50,6 +50,7 @@ static uint32_t feed(const struct scan *scan, struct grid *grid)
     size_t cells = (size_t)(scan->head.grid.columns * scan->head.grid.rows);
     struct uldrevin_sweep sweep;
     grid->ledger = list(rays * gates, sizeof *grid->ledger);
+    grid->marks = list(rays * gates, sizeof *grid->marks);
     grid->counts = list(cells, sizeof *grid->counts);
     grid->quality_sums = list(cells, sizeof *grid->quality_sums);
     grid->value_sums = list(cells, sizeof *grid->value_sums);
@@ -59,7 +60,7 @@ static uint32_t feed(const struct scan *scan, struct grid *grid)
     uint32_t refusal = uldrevin_sweep_open(&scan->head, grid->counts, cells, grid->quality_sums, cells, grid->value_sums, cells, &sweep);
     for (size_t ray = 0; ray < rays && refusal == 0; ray++)
         refusal = uldrevin_sweep_take(&sweep, scan->azimuths + ray, 1, scan->values + ray * gates, gates,
-                                      scan->qualities + ray * gates, gates, grid->ledger, rays * gates,
+                                      scan->qualities + ray * gates, gates, grid->ledger, rays * gates, grid->marks, rays * gates,
                                       grid->counts, cells, grid->quality_sums, cells, grid->value_sums, cells);
     if (refusal == 0)
         refusal = uldrevin_sweep_close(&sweep, grid->counts, cells, grid->quality_sums, cells, grid->value_sums, cells,

@@ -2,9 +2,10 @@
  * Uldrevin: radar gates to cells of the American HRAP mesh or the German RADOLAN raster, in whole numbers.
  *
  * Link with target/staticlib/libuldrevin.a or target/libuldrevin.so, which `make library` builds for x86-64 Linux. Each function here is
- * proved to follow the rules ("document 01", and "document 02" for a sweep) for every number that its parameters, structs and lists can
- * hold, where the pointers are as said under "Pointers"; docs/STATEMENTS.md lists what is proved. A wider number that is passed for a
- * narrower one, such as one of 64 bits for the number of a field, is cut by C before the call, and the answer is that of what is left.
+ * proved to follow the rules ("document 01", and "document 02" for a sweep and the mark) for every number that its parameters, structs and
+ * lists can hold, where the pointers are as said under "Pointers"; docs/STATEMENTS.md lists what is proved. A wider number that is passed
+ * for a narrower one, such as one of 64 bits for the number of a field, is cut by C before the call, and the answer is that of what is
+ * left.
  *
  * Units. Angles are ten-thousandths of a degree, lengths are centimetres. Azimuths are clockwise from north, longitudes east positive.
  *
@@ -34,11 +35,11 @@
  *   31  a count or sum of a cell would pass its width
  *
  * Pointers. They are not checked. A struct or a single number is lent as a pointer to it, a list as a pointer to its first number and its
- * length in numbers. Each pointer, those to cell, x, y, a head that is read, a sweep, start and length too, is aligned for its type and
- * never null, not even with the length 0, and points to one struct or number, or to as many numbers as the length says. What is lent for
- * output overlaps nothing else that is lent to the same call; a sweep is lent for output to each of its functions. Nothing is kept after
- * the call, and nothing is allocated; calls from several threads do not disturb each other, where none of them is lent for output what
- * another is lent.
+ * length in numbers. Each pointer, those to cell, x, y, mark, a head that is read, a sweep, start and length too, is aligned for its type
+ * and never null, not even with the length 0, and points to one struct or number, or to as many numbers as the length says. What is lent
+ * for output overlaps nothing else that is lent to the same call; a sweep is lent for output to each of its functions. Nothing is kept
+ * after the call, and nothing is allocated; calls from several threads do not disturb each other, where none of them is lent for output
+ * what another is lent.
  */
 #ifndef ULDREVIN_H
 #define ULDREVIN_H
@@ -99,10 +100,15 @@ struct uldrevin_scan {
 
 /*
  * Places one gate. azimuth: 0 to 3,599,999, else refused by 7. range: 0 to 46,000,000, taken along the sphere, else refused by 3.
- * cell: the gate's cell, ULDREVIN_OUTSIDE outside the grid. x, y: its position, inside or outside. Refusals: 3, 4, 5, 7.
+ * cell: the gate's cell, ULDREVIN_OUTSIDE outside the grid. x, y: its position, inside or outside. mark: 1 or 0, inside or outside.
+ * Refusals: 3, 4, 5, 7.
+ *
+ * The mark is 1 where the remainder of x less the x of the grid's south-west corner, by the side and never negative, is under 50 or at
+ * least the side less 50, or the same for y: the position is 0 to 49 centimetres east or north of a cell's edge line, or 1 to 50 west or
+ * south of it. The lines are taken as prolonged beyond the grid.
  */
 uint32_t uldrevin_place(const struct uldrevin_site *site, const struct uldrevin_grid *grid, int64_t azimuth, int64_t range,
-                        uint32_t *cell, int64_t *x, int64_t *y);
+                        uint32_t *cell, int64_t *x, int64_t *y, uint8_t *mark);
 
 /*
  * Remaps a whole scan. In come, ray by ray:
@@ -111,6 +117,7 @@ uint32_t uldrevin_place(const struct uldrevin_site *site, const struct uldrevin_
  *   qualities       one a gate, rays x gates, each 0 to 100
  * Out go; what these lists held before plays no part:
  *   ledger          one a gate, rays x gates: its cell, or ULDREVIN_OUTSIDE; measured or not
+ *   marks           one a gate, rays x gates bytes: its mark, 1 or 0, as uldrevin_place gives it; measured or not
  *   counts          one a cell, columns x rows: the measured gates in it
  *   quality_sums    one a cell: the sum of their qualities
  *   value_sums      one a cell: the sum of their values, each times its quality where weighted by quality
@@ -123,6 +130,7 @@ uint32_t uldrevin_remap(const struct uldrevin_scan *scan,
                         const uint16_t *values, size_t values_length,
                         const uint8_t *qualities, size_t qualities_length,
                         uint32_t *ledger, size_t ledger_length,
+                        uint8_t *marks, size_t marks_length,
                         uint32_t *counts, size_t counts_length,
                         uint32_t *quality_sums, size_t quality_sums_length,
                         uint64_t *value_sums, size_t value_sums_length,
@@ -132,8 +140,9 @@ uint32_t uldrevin_remap(const struct uldrevin_scan *scan,
 /*
  * A sweep: a scan that is fed ray by ray while the antenna turns. It is opened with the numbers of the scan, takes one ray or several at a
  * time, and is closed. Its lists are as long as those of the whole scan from the start. While a caller hands on the latest sweep and
- * untouched lists, the ledger of the rays taken, the sums, and after closing the cells, are those that uldrevin_remap gives for the whole
- * scan of these rays, however they were divided. A group of rays with one bad ray is refused whole, and the sweep goes on without it.
+ * untouched lists, the ledger and the marks of the rays taken, the sums, and after closing the cells, are those that uldrevin_remap gives
+ * for the whole scan of these rays, however they were divided. A group of rays with one bad ray is refused whole, and the sweep goes on
+ * without it.
  *
  * It is plain numbers, which a caller may keep, copy or alter: they are tested again at each call, and a call that is done writes them all.
  */
@@ -167,6 +176,7 @@ uint32_t uldrevin_sweep_open(const struct uldrevin_scan *scan,
  * Both in and out go:
  *   sweep           its taken grows by these rays
  *   ledger          one a gate of all rays announced, rays x gates: the entries of these rays, from taken x gates on; all others stay
+ *   marks           one a gate of all rays announced, rays x gates bytes: 1 or 0 for these rays, from taken x gates on; all others stay
  *   counts          one a cell, columns x rows: grows by the measured gates of these rays in it
  *   quality_sums    one a cell: grows by their qualities
  *   value_sums      one a cell: grows by their values, each times its quality where weighted by quality
@@ -179,6 +189,7 @@ uint32_t uldrevin_sweep_take(struct uldrevin_sweep *sweep,
                              const uint16_t *values, size_t values_length,
                              const uint8_t *qualities, size_t qualities_length,
                              uint32_t *ledger, size_t ledger_length,
+                             uint8_t *marks, size_t marks_length,
                              uint32_t *counts, size_t counts_length,
                              uint32_t *quality_sums, size_t quality_sums_length,
                              uint64_t *value_sums, size_t value_sums_length);

@@ -26,7 +26,7 @@ class Group(NamedTuple):
     def shares(self):
         """What the group adds to each sum of each cell."""
         scan = self.scan._replace(**self.rays()._asdict())
-        return Sums(*rules.tally(scan, rules.ledger(scan)))
+        return Sums(*rules.tally(scan, rules.ledger(scan.grid, rules.positions(scan))))
 
 
 # Groups that lie in one cell. The radar is away from the lines of both grids, and all gates are within a few centimetres.

@@ -1,4 +1,4 @@
-"""The library from C, Rust and Python: the same functions, structs and sentences for refusals, the same grids and ledgers.
+"""The library from C, Rust and Python: the same functions, structs and sentences for refusals, the same grids, ledgers and marks.
 
     python3 tests/compare_bindings.py
 
@@ -8,7 +8,9 @@ import subprocess
 import sys
 
 import declarations
+from crossing import CROSSING
 from declarations import ROOT
+from uldrevin import write_record
 
 ARCHIVE = "target/staticlib/libuldrevin.a"
 GCC = ["gcc", "-std=c99", "-Wall", "-Wextra", "-Werror", "-pedantic", "-O2", "-Iinclude"]
@@ -41,7 +43,7 @@ def rust_example(name):
 
 
 def first_grids():
-    """The commands that print a grid and a ledger, by language."""
+    """The commands that print a grid and a ledger with its marks, by language."""
     return {
         "C": ["target/first_grid"],
         "Rust": rust_example("first_grid"),
@@ -59,23 +61,29 @@ def printed_sheet(record):
 
 
 def expected_grid(record):
-    """What the proved programs print for a record: the sheet, then the ledger with cells instead of columns and rows."""
+    """What the proved programs print for a record: the sheet, then cells and marks from the ledger."""
     sheet = printed_sheet(record)
     if not sheet.startswith("grid"):
         return sheet
     columns = int(sheet.split()[1])
     entries = []
     for line in ended(["target/bin/ledger"], record).stdout.decode().splitlines()[1:]:
-        ray, gate, *_, column, row = line.split()
+        ray, gate, *_, column, row, mark = line.split()
         inside = row != "outside"
-        entries.append(f"{ray} {gate} {int(row) * columns + int(column) if inside else 'outside'}\n")
+        entries.append(f"{ray} {gate} {int(row) * columns + int(column) if inside else 'outside'} {mark}\n")
     return sheet + "ledger\n" + "".join(entries)
+
+
+def records():
+    """Both example records, of which no gate is marked, and one with marked gates."""
+    for name in ("hrap.scan", "radolan.scan"):
+        yield name, (ROOT / "examples" / name).read_bytes()
+    yield "crossing", write_record(*CROSSING)
 
 
 def grids_differ(command, expected_of):
     differences = []
-    for name in ("hrap.scan", "radolan.scan"):
-        record = (ROOT / "examples" / name).read_bytes()
+    for name, record in records():
         for words, data in (("", record), (" cut short", record[:-1]), (" with a byte more", record + b"\0")):
             done, expected = ended(command, data), expected_of(data)
             if (done.stdout.decode(), done.returncode) != (expected, 0 if expected.startswith("grid") else 1):
@@ -85,6 +93,7 @@ def grids_differ(command, expected_of):
 
 def comparisons():
     yield from declarations.functions()
+    yield "the functions have the same parameters in C, Rust and Python", declarations.parameters()
     yield "the structs have the same fields in C, Rust and Python", declarations.structs()
     yield "the sentences of the refusals are the same in C, Rust and Python", declarations.sentences()
     yield "a C program compiles without a warning and finds what documents 01 and 02 say", (

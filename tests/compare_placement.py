@@ -1,11 +1,13 @@
 """The placement of one gate by the compiled library against the second program's, and against the exact position."""
-from ctypes import byref, c_int64, c_uint32
+from ctypes import byref, c_int64, c_uint8, c_uint32
 from fractions import Fraction
 
 import library
+import marked_gates
 from good_gates import AZIMUTHS, Gate, groups, position
 from lent_lists import changed_lines
 from lent_structs import grid_struct, site_struct
+from marked_gates import WANTED
 from second_program import placement
 from second_program.placement import Hrap, Placed, Radolan
 from wrong_gates import far_refusals, joint_refusals, single_refusals
@@ -16,18 +18,18 @@ BOUND = 50  # centimetres, demand 3
 # The library's answers.
 
 # What the lent numbers hold before a call.
-LENT = (2_863_311_531, -1_234_567_890_123_456_789, 987_654_321_987_654_321)
+LENT = (2_863_311_531, -1_234_567_890_123_456_789, 987_654_321_987_654_321, 165)
 
 
 def answer(compiled, gate):
-    """The library's answer, and where site or grid have been changed. After a refusal that left cell, x and y alone they are None."""
+    """The library's answer, and where site or grid have been changed. After a refusal that left what was lent alone it is None."""
     given = site_struct(gate), grid_struct(gate.grid)
     before = [bytes(struct) for struct in given]
-    cell, x, y = c_uint32(LENT[0]), c_int64(LENT[1]), c_int64(LENT[2])
-    number = compiled.uldrevin_place(*given, gate.azimuth, gate.range, byref(cell), byref(x), byref(y))
-    lent = (cell.value, x.value, y.value)
+    numbers = [held(old) for held, old in zip((c_uint32, c_int64, c_int64, c_uint8), LENT)]
+    number = compiled.uldrevin_place(*given, gate.azimuth, gate.range, *map(byref, numbers))
+    lent = tuple(one.value for one in numbers)
     if number != 0 and lent == LENT:
-        lent = (None, None, None)
+        lent = (None,) * len(LENT)
     return Placed(number, *lent), changed_lines(("site", "grid"), given, before)
 
 
@@ -44,8 +46,8 @@ def compared(compiled, gates):
 
 
 def tally(gates):
-    """How many gates lie in the grid, west or south of it, and on a line."""
-    inside = west_or_south = on_line = 0
+    """How many gates lie in the grid, west or south of it, and on a line, and how many are marked."""
+    inside = west_or_south = on_line = marked = 0
     for gate in gates:
         x, y = position(gate)
         column, row = placement.column_and_row(gate.grid, x, y)
@@ -53,7 +55,9 @@ def tally(gates):
         inside += placement.cell(gate.grid, x, y) != placement.OUTSIDE
         west_or_south += column < 0 or row < 0
         on_line += (x - corner_x) % gate.grid.side == 0 or (y - corner_y) % gate.grid.side == 0
-    return f"{inside} inside, {west_or_south} west or south, {on_line} on a line"
+        marked += placement.mark(gate.grid, x, y)
+    lying = f"{inside} inside, {west_or_south} west or south, {on_line} on a line"
+    return f"{lying}, {marked} marked, {len(gates) - marked} unmarked"
 
 
 def beside_exact(placed):
@@ -71,6 +75,19 @@ def beside_exact(placed):
             differences.append(f"{gate} at ({x}, {y}) is {float(distance):.3f} centimetres from the exact position")
     title = f"all {len(positions)} positions of these gates beside the exact ones"
     return f"{title}, at most {float(largest):.3f} centimetres apart", differences
+
+
+def at_limits_of_the_mark(compiled):
+    """Each aimed gate has the mark that it is meant to have, and every mixture is met."""
+    meant = marked_gates.aimed_gates()
+    gates, missing = list(meant), marked_gates.not_met(meant)
+    answers, differences = compared(compiled, gates)
+    for gate, got in zip(gates, answers):
+        if got.mark != meant[gate]:
+            differences.append(f"{gate} is {got} in the library and meant to have the mark {meant[gate]}")
+    title = f"placement of {len(gates)} gates at both sides of each limit of the mark, seed {marked_gates.SEED}"
+    met = f"{len(WANTED) - len(missing)} of {len(WANTED)} mixtures of grid, remainders and place"
+    return f"{title}: {met}, {tally(gates)}", differences + missing
 
 
 # Refusals.
@@ -114,6 +131,7 @@ def comparisons():
         answers, differences = compared(compiled, gates)
         placed += zip(gates, answers)
         yield f"placement of {len(gates)} gates {name}: {tally(gates)}", differences
+    yield at_limits_of_the_mark(compiled)
     yield beside_exact(placed)
     for name, cases in (
         ("at both sides of each limit", single_refusals()),

@@ -159,9 +159,22 @@ def compared(program, inputs):
 # Inputs by the thousand.
 
 
-def sorts_told(inputs):
+def marks_in(text):
+    """The marks in a ledger or in the text of a single gate."""
+    first, *others = text.splitlines()
+    if first.startswith((b"inside", b"outside")):
+        return [first[-1:]]
+    return [line[-1:] for line in others] if first.startswith(b"ray") else []
+
+
+def told(inputs):
+    """How many texts of each sort there are, and how many marked and unmarked gates in them."""
     sorts = Counter(SORTS[one.expected.split()[0]] for one in inputs)
-    return ", ".join(f"{count} {sort}" for sort, count in sorts.items())
+    counts = [f"{count} {sort}" for sort, count in sorts.items()]
+    marks = Counter(mark for one in inputs for mark in marks_in(one.expected))
+    if marks:
+        counts.append(f"{marks[b'1']} gates marked, {marks[b'0']} unmarked")
+    return ", ".join(counts)
 
 
 def every_group(program, groups):
@@ -171,7 +184,7 @@ def every_group(program, groups):
         inputs = list(inputs)
         total += len(inputs)
         met |= {int(one.expected.split()[1]) for one in inputs if one.expected.startswith(b"refused")}
-        yield f"{program.name}, {len(inputs)} {name}: {sorts_told(inputs)}, seed {SEED}", compared(program, inputs)
+        yield f"{program.name}, {len(inputs)} {name}: {told(inputs)}, seed {SEED}", compared(program, inputs)
     numbers = (3, 4, 5, 7) if program.name == "gate" else (1, 2, 3, 4, 5, 7, 8, 11, 12, 13, 14)
     missing = [f"no input is refused with {number}" for number in numbers if number not in met]
     yield f"{program.name}, {total} inputs, every refusal number among them", missing

@@ -3,6 +3,7 @@ import random
 from itertools import combinations, product
 
 import library
+import marked_gates
 from good_scans import SEED, SHEET, groups
 from lent_lists import GIVEN, MARGIN, changed_lines, earlier, filled_with, given_lists, lending_all
 from lent_structs import SIDES, WEIGHTINGS, scan_struct
@@ -14,7 +15,7 @@ from wrong_scans import HRAP_SCAN, RADOLAN_SCAN, apply, far_numbers, far_pairs, 
 SHOWN = 3  # places printed of one list
 
 # By array's letters.
-WRITTEN = Lent("I", "I", "I", "Q", "H", "B")
+WRITTEN = Lent("I", "B", "I", "I", "Q", "H", "B")
 
 
 # The library's answers.
@@ -38,7 +39,7 @@ def described(scan):
 
 def place_described(scan, name, place):
     """The gate or the cell of a place. A place in the margins has none, nor have some where the lengths are wrong."""
-    if name != "ledger":
+    if name not in ("ledger", "marks"):
         if not 0 <= place < scan.grid.columns * scan.grid.rows:
             return "no cell"
         return f"column {place % scan.grid.columns}, row {place // scan.grid.columns}"
@@ -80,7 +81,7 @@ def differences_from(compiled, scan, lengths, expected):
 
 
 def beside_single_gates(draw, number, scan, lists):
-    """Some entries of the second program's ledger against its own placement of one gate."""
+    """Some entries and marks of the second program's scan against its own placement of one gate."""
     lines = []
     count = scan.rays * scan.gates
     chosen = sorted(draw.sample(range(count), min(count, 25)))
@@ -88,28 +89,31 @@ def beside_single_gates(draw, number, scan, lists):
         ray, gate = divmod(place, scan.gates)
         distance = scan.first + gate * scan.spacing
         single = placement.place(scan.latitude, scan.longitude, scan.grid, scan.azimuths[ray], distance)
-        if (single.refusal, single.cell) != (0, lists.ledger[place]):
-            entry = lists.ledger[place]
-            lines.append(f"scan {number}, {described(scan)}: ray {ray}, gate {gate} has entry {entry}, by itself {single}")
+        entry, mark = lists.ledger[place], lists.marks[place]
+        if (single.refusal, single.cell, single.mark) != (0, entry, mark):
+            told = f"entry {entry} and mark {mark}, by itself {single}"
+            lines.append(f"scan {number}, {described(scan)}: ray {ray}, gate {gate} has {told}")
     return len(chosen), lines
 
 
 class Tally:
     """What the scans of a group were like."""
 
-    scans = gates = inside = cells = all_in = none_in = 0
+    scans = gates = inside = marked = cells = all_in = none_in = 0
 
     def add(self, scan, lists):
         inside = sum(entry != OUTSIDE for entry in lists.ledger)
         self.scans += 1
         self.gates += len(lists.ledger)
         self.inside += inside
+        self.marked += sum(lists.marks)
         self.cells += sum(count != 0 for count in lists.counts)
         self.all_in += inside == len(lists.ledger)
         self.none_in += inside == 0
 
     def __str__(self):
-        gates = f"{self.inside} of {self.gates} gates inside, {self.cells} cells with a count"
+        marks = f"{self.marked} marked, {self.gates - self.marked} unmarked"
+        gates = f"{self.inside} of {self.gates} gates inside, {marks}, {self.cells} cells with a count"
         return f"{gates}, {self.all_in} scans wholly inside, {self.none_in} wholly outside"
 
 
@@ -135,6 +139,20 @@ def whole_scans(compiled):
         scans += tally.scans
         yield f"{tally.scans} scans {name}, seed {SEED}: {tally}", lines
     yield f"the second program's {scans} ledgers beside its placement of single gates, {singles} gates", single_lines
+
+
+def at_limits_of_the_mark(compiled):
+    """Each aimed gate has the mark that it is meant to have, and every mixture is met by measured gates and by others."""
+    chosen, tally, lines = marked_gates.aimed_scans(), Tally(), []
+    for number, aimed in enumerate(chosen):
+        scan, lengths = aimed.scan, rules.lent_lengths(aimed.scan)
+        expected = rules.remap(scan, lengths)
+        found = differences_from(compiled, scan, lengths, expected) + aimed.other_marks(expected.lists.marks)
+        lines += [f"scan {number}, {described(scan)}: {line}" for line in found]
+        tally.add(scan, expected.lists)
+    met, missing = marked_gates.met_in(chosen)
+    title = f"{len(chosen)} scans at both sides of each limit of the mark, seed {marked_gates.SEED}"
+    return f"{title}: {met}, {tally}", lines + missing
 
 
 def in_turn(compiled):
@@ -194,31 +212,37 @@ def refusals(compiled):
     yield f"refusals of a scan, three to eight together, {len(chosen)} scans, seed {SEED}", lines
 
 
-# Document 01's cases. All numbers that are expected are written here by hand.
+# Document 01's cases, and T-02's limits. All numbers that are expected are written here by hand.
 
-# At range 0 and on the meridian X is 0.
+# At range 0 and on the meridian X is 0, on a line of HRAP.
 ONE_GATE = Scan(1, 1, 0, 1, 600_000, -1_050_000, Hrap(401, 932, 1, 1), False, [0], [5], [50])
 RADOLAN_GATE = ONE_GATE._replace(latitude=510_000, longitude=100_000)
 RASTER = Radolan(-52_346_220, -465_864_470, 100_000, 900, 900)
 
 
 def in_second_cell(count, quality_sum, value_sum, mean, quality):
-    return Remapped(0, Lent([1, 1], [0, count], [0, quality_sum], [0, value_sum], [65_535, mean], [0, quality]))
+    return Remapped(0, Lent([1, 1], [1, 1], [0, count], [0, quality_sum], [0, value_sum], [65_535, mean], [0, quality]))
 
 
-def in_cell(cell, cells):
+def in_cell(cell, cells, mark=1):
     """The lists of a single gate with value 5 and quality 50, plain."""
 
     def only(number, other=0):
         return [number if place == cell else other for place in range(cells)]
 
-    return Remapped(0, Lent([cell], only(1), only(50), only(5), only(5, 65_535), only(50)))
+    return Remapped(0, Lent([cell], [mark], only(1), only(50), only(5), only(5, 65_535), only(50)))
 
 
-def outside(cells):
+def outside(cells, mark=1):
     nothing = [0] * cells
-    return Remapped(0, Lent([OUTSIDE], nothing, nothing, nothing, [65_535] * cells, nothing))
+    return Remapped(0, Lent([OUTSIDE], [mark], nothing, nothing, nothing, [65_535] * cells, nothing))
 
+
+# X less the corner, column and mark, for a side of 10,000,000. Y is far from any line.
+ABOUT_THE_CORNER = (
+    *((-9_999_951, -1, 1), (-9_999_950, -1, 0), (-51, -1, 0), (-50, -1, 1), (-1, -1, 1), (0, 0, 1), (49, 0, 1), (50, 0, 0)),
+    *((9_999_949, 0, 0), (9_999_950, 0, 1), (9_999_999, 0, 1), (10_000_000, 1, 1), (10_000_049, 1, 1), (10_000_050, 1, 0)),
+)
 
 REFUSED = {number: Remapped(number, None) for number in range(1, 9)}
 PASSES = None  # the lists are left to the second program
@@ -255,12 +279,12 @@ def cases():
     yield "latitude 600,000, HRAP: mesh row 932", ONE_GATE._replace(grid=Hrap(401, 931, 1, 3)), in_cell(1, 3)
 
     title = "range 0, longitude 100,000, RADOLAN: X = 0"
-    for corner, column in ((1, -1), (0, 0), (-9_999_999, 0), (-10_000_000, 1)):
-        grid = Radolan(corner, -425_000_000, 10_000_000, 3, 1)
-        expected = outside(3) if column < 0 else in_cell(column, 3)
-        yield f"{title}, X less corner is {-corner:,}: column {column}", RADOLAN_GATE._replace(grid=grid), expected
+    for east, column, mark in ABOUT_THE_CORNER:
+        scan = RADOLAN_GATE._replace(grid=Radolan(-east, -425_000_000, 10_000_000, 3, 1))
+        expected = outside(3, mark) if column < 0 else in_cell(column, 3, mark)
+        yield f"{title}, X less corner is {east:,}: column {column}, mark {mark}", scan, expected
     title = "latitude 510,000, RADOLAN: column 523, row 449, ledger 404,623"
-    yield title, RADOLAN_GATE._replace(grid=RASTER), in_cell(404_623, 810_000)
+    yield title, RADOLAN_GATE._replace(grid=RASTER), in_cell(404_623, 810_000, mark=0)
 
 
 def case_differences(compiled, scan, expected):
@@ -276,10 +300,11 @@ def case_differences(compiled, scan, expected):
 def comparisons():
     compiled = library.load()
     yield from whole_scans(compiled)
+    yield at_limits_of_the_mark(compiled)
     yield in_turn(compiled)
     yield from refusals(compiled)
     chosen = list(cases())
     lines = [
         f"{title}: {line}" for title, scan, expected in chosen for line in case_differences(compiled, scan, expected)
     ]
-    yield f"document 01's cases as whole scans, {len(chosen)} scans", lines
+    yield f"document 01's cases and T-02's limits as whole scans, {len(chosen)} scans", lines

@@ -6,6 +6,7 @@ from itertools import combinations, cycle, islice, product
 import altered_sums
 import good_sweeps
 import library
+import marked_gates
 import wrong_sweeps
 from compare_scan import described
 from good_scans import SEED, SHEET
@@ -48,6 +49,19 @@ def divisions(compiled):
             lines += course.lines
             sweeps += 1
         yield f"{sweeps} sweeps {words}: {told(numbers)}, seed {SEED}", lines
+
+
+def at_limits_of_the_mark(compiled):
+    """Each aimed gate has the mark that it is meant to have, and every mixture is met by measured gates and by others."""
+    draw, chosen, numbers, lines = random.Random(SEED + 14), marked_gates.aimed_scans(), Counter(), []
+    for aimed in chosen:
+        course = whole_sweep(compiled, aimed.scan, good_sweeps.any_division(draw, aimed.scan.rays))
+        found = aimed.other_marks(course.desk.numbers("marks"))
+        numbers += course.numbers
+        lines += course.lines + [f"{described(aimed.scan)}: {line}" for line in found]
+    met, missing = marked_gates.met_in(chosen)
+    title = f"{len(chosen)} sweeps at both sides of each limit of the mark, seed {marked_gates.SEED}"
+    yield f"{title}: {met}, {told(numbers)}", lines + missing
 
 
 # Refusals and altered states.
@@ -284,6 +298,7 @@ def sheet_steps(desk):
     yield "azimuth 3,600,000", desk.take(sheet_rays(1)._replace(azimuths=[3_600_000])), 7, 1, 0
     yield "quality 101", desk.take(sheet_rays(1)._replace(qualities=[90, 101])), 8, 1, 0
     yield "a ledger of the group alone", desk.take(sheet_rays(1), {"ledger": -4}), 6, 1, 0
+    yield "marks of the group alone", desk.take(sheet_rays(1), {"marks": -4}), 6, 1, 0
     yield "closed early", desk.close(), 18, 1, 0
     yield "two rays", desk.take(sheet_rays(2)), 0, 3, 0
     yield "one ray, too many", desk.take(sheet_rays(1)), 17, 3, 0
@@ -294,12 +309,13 @@ def sheet_steps(desk):
 
 
 def by_hand(compiled):
-    desk = Desk(compiled, Lent(6, 2, 2, 2, 2, 2))
+    desk = Desk(compiled, Lent(6, 6, 2, 2, 2, 2, 2))
     lent = {name: desk.numbers(name) for name in Lent._fields}
     lines, steps = [], 0
     for words, (number, found), meant, taken, closed in sheet_steps(desk):
         lists = Lent(
             [1] * (2 * taken) + lent["ledger"][2 * taken :],
+            [1] * (2 * taken) + lent["marks"][2 * taken :],  # X is 0, on a line
             [0, 2 * taken],
             [0, 100 * taken],
             [0, 160 * taken],
@@ -321,6 +337,7 @@ def comparisons():
     compiled = library.load()
     yield from by_hand(compiled)
     yield from divisions(compiled)
+    yield from at_limits_of_the_mark(compiled)
     yield from opening(compiled)
     yield from refusals(compiled)
     yield from widths(compiled)

@@ -48,18 +48,19 @@ static void sines(void)
 struct place {
     uint32_t cell;
     int64_t x, y;
+    uint8_t mark;
 };
-static const struct place before = {7, 8, 9};
+static const struct place before = {7, 8, 9, 10};
 
 static int same_place(struct place one, struct place other)
 {
-    return one.cell == other.cell && one.x == other.x && one.y == other.y;
+    return one.cell == other.cell && one.x == other.x && one.y == other.y && one.mark == other.mark;
 }
 
 static uint32_t place(const struct uldrevin_site *site, const struct uldrevin_grid *grid, int64_t azimuth, int64_t range, struct place *p)
 {
     *p = before;
-    return uldrevin_place(site, grid, azimuth, range, &p->cell, &p->x, &p->y);
+    return uldrevin_place(site, grid, azimuth, range, &p->cell, &p->x, &p->y, &p->mark);
 }
 
 static uint32_t place_radolan(int64_t latitude, int64_t columns, int64_t azimuth, int64_t range, struct place *p)
@@ -79,14 +80,17 @@ static uint32_t place_hrap(int64_t longitude, int64_t rows, int64_t azimuth, int
 static void gates(void)
 {
     struct place p;
-    check("RADOLAN gate placed", place_radolan(510000, 900, 0, 0, &p) == 0 && p.cell == 404623 && p.x == 0);
-    check("RADOLAN gate outside", place_radolan(510000, 523, 0, 0, &p) == 0 && p.cell == ULDREVIN_OUTSIDE && p.x == 0);
+    check("RADOLAN gate placed", place_radolan(510000, 900, 0, 0, &p) == 0 && p.cell == 404623 && p.x == 0 && p.mark == 0);
+    check("RADOLAN gate outside", place_radolan(510000, 523, 0, 0, &p) == 0 && p.cell == ULDREVIN_OUTSIDE && p.x == 0 && p.mark == 0);
     check("RADOLAN range", place_radolan(510000, 900, 0, 46000001, &p) == 3 && same_place(p, before));
     check("RADOLAN latitude", place_radolan(750001, 900, 0, 0, &p) == 4 && same_place(p, before));
     check("RADOLAN columns", place_radolan(510000, 1501, 0, 0, &p) == 5 && same_place(p, before));
     check("RADOLAN azimuth", place_radolan(510000, 900, 3600000, 0, &p) == 7 && same_place(p, before));
-    check("HRAP gate placed", place_hrap(-1050000, 1, 0, 0, &p) == 0 && p.cell == 1 && p.x == 0);
-    check("HRAP gate outside", place_hrap(-1050000, 1, 900000, 46000000, &p) == 0 && p.cell == ULDREVIN_OUTSIDE && p.x > 0);
+    check("HRAP gate placed on a line", place_hrap(-1050000, 1, 0, 0, &p) == 0 && p.cell == 1 && p.x == 0 && p.mark == 1);
+    check("HRAP gate on the line, outside",
+          place_hrap(-1050000, 1, 1800000, 46000000, &p) == 0 && p.cell == ULDREVIN_OUTSIDE && p.x == 0 && p.mark == 1);
+    check("HRAP gate outside",
+          place_hrap(-1050000, 1, 900000, 46000000, &p) == 0 && p.cell == ULDREVIN_OUTSIDE && p.x > 0 && p.mark == 0);
     check("HRAP range before site", place_hrap(INT64_MIN, 0, UINT32_MAX, UINT32_MAX, &p) == 3 && same_place(p, before));
     check("HRAP longitude", place_hrap(1800001, 1, 0, 0, &p) == 4 && same_place(p, before));
     check("HRAP rows", place_hrap(-1050000, 0, 0, 0, &p) == 5 && same_place(p, before));
@@ -136,19 +140,19 @@ struct lists {
     uint32_t ledger[2], counts[2], quality_sums[2];
     uint64_t value_sums[2];
     uint16_t means[2];
-    uint8_t cell_qualities[2], behind[2];
+    uint8_t marks[2], cell_qualities[2], behind[8];
 };
 
 static uint32_t remap_lists(const struct uldrevin_scan *scan, const uint32_t *azimuths_given, const uint8_t *qualities_given,
-                            size_t ledger_length, struct lists *l)
+                            size_t ledger_length, size_t marks_length, struct lists *l)
 {
-    return uldrevin_remap(scan, azimuths_given, 1, values, 2, qualities_given, 2, l->ledger, ledger_length, l->counts, 2,
-                          l->quality_sums, 2, l->value_sums, 2, l->means, 2, l->cell_qualities, 2);
+    return uldrevin_remap(scan, azimuths_given, 1, values, 2, qualities_given, 2, l->ledger, ledger_length, l->marks, marks_length,
+                          l->counts, 2, l->quality_sums, 2, l->value_sums, 2, l->means, 2, l->cell_qualities, 2);
 }
 
 static uint32_t remap(const struct uldrevin_scan *scan, struct lists *l)
 {
-    return remap_lists(scan, azimuths, qualities, 2, l);
+    return remap_lists(scan, azimuths, qualities, 2, 2, l);
 }
 
 /* Lists that hold something else than a scan gives. */
@@ -183,10 +187,12 @@ static void scans(void)
     struct lists l = held;
     check("HRAP scan remapped", remap(&hrap, &l) == 0);
     check("HRAP ledger", l.ledger[0] == 1 && l.ledger[1] == 1);
+    check("HRAP marks", l.marks[0] == 1 && l.marks[1] == 1);
     check("HRAP cells, by quality", empty(&l, 0) && both_gates(&l, 1, 160, 1));
     l = held;
     check("RADOLAN scan remapped", remap(&radolan, &l) == 0);
     check("RADOLAN ledger", l.ledger[0] == 0 && l.ledger[1] == 0);
+    check("RADOLAN marks", l.marks[0] == 1 && l.marks[1] == 1);
     check("RADOLAN cells, plain", both_gates(&l, 0, 8, 4) && empty(&l, 1));
     l = held;
     static const uint8_t bad_quality[2] = {90, 101};
@@ -196,9 +202,10 @@ static void scans(void)
     check("scan of no rays", remap(&no_rays, &l) == 1 && same_lists(&l, &held));
     check("scan with spacing 0", remap(&no_spacing, &l) == 3 && same_lists(&l, &held));
     check("scan with a side of 0", remap(&no_side, &l) == 5 && same_lists(&l, &held));
-    check("scan with a short ledger", remap_lists(&hrap, azimuths, qualities, 1, &l) == 6 && same_lists(&l, &held));
-    check("scan with an azimuth of 360 degrees", remap_lists(&radolan, bad_azimuth, qualities, 2, &l) == 7 && same_lists(&l, &held));
-    check("scan with a quality of 101", remap_lists(&hrap, azimuths, bad_quality, 2, &l) == 8 && same_lists(&l, &held));
+    check("scan with a short ledger", remap_lists(&hrap, azimuths, qualities, 1, 2, &l) == 6 && same_lists(&l, &held));
+    check("scan with a short list of marks", remap_lists(&hrap, azimuths, qualities, 2, 1, &l) == 6 && same_lists(&l, &held));
+    check("scan with an azimuth of 360 degrees", remap_lists(&radolan, bad_azimuth, qualities, 2, 2, &l) == 7 && same_lists(&l, &held));
+    check("scan with a quality of 101", remap_lists(&hrap, azimuths, bad_quality, 2, 2, &l) == 8 && same_lists(&l, &held));
 }
 
 /* ---- sweeps of two rays of two gates on two cells */
@@ -216,7 +223,7 @@ struct swept {
     uint64_t value_sums[2];
     uint32_t ledger[4], counts[2], quality_sums[2];
     uint16_t means[2];
-    uint8_t cell_qualities[2], behind[2];
+    uint8_t marks[4], cell_qualities[2], behind[6];
 };
 
 static struct swept held_swept(void)
@@ -247,13 +254,13 @@ static uint32_t open_sweep(const struct uldrevin_scan *scan, struct swept *s)
 static uint32_t take_with(struct swept *s, const struct rays *r, size_t first, const size_t *n)
 {
     return uldrevin_sweep_take(&s->sweep, r->azimuths + first, n[0], r->values + 2 * first, n[1], r->qualities + 2 * first, n[2],
-                               s->ledger, n[3], s->counts, n[4], s->quality_sums, n[5], s->value_sums, n[6]);
+                               s->ledger, n[3], s->marks, n[4], s->counts, n[5], s->quality_sums, n[6], s->value_sums, n[7]);
 }
 
 /* Takes some of the rays, the first of them by its place among both. */
 static uint32_t take(struct swept *s, const struct rays *r, size_t first, size_t rays)
 {
-    const size_t n[7] = {rays, 2 * rays, 2 * rays, 4, 2, 2, 2};
+    const size_t n[8] = {rays, 2 * rays, 2 * rays, 4, 4, 2, 2, 2};
     return take_with(s, r, first, n);
 }
 
@@ -286,9 +293,10 @@ static struct swept sweep_with(const struct uldrevin_scan *scan, size_t rays)
     return s;
 }
 
-/* The rays one by one, and both at once, give what the whole scan gives. */
+/* The rays one by one, and both at once, give what the whole scan gives. The x of all gates but the last is 0, on a line. */
 static void sweeps(void)
 {
+    static const uint8_t marks[4] = {1, 1, 1, 0};
     const struct swept held = held_swept();
     const struct uldrevin_scan grids[] = {of_two_rays(&hrap), of_two_rays(&radolan)};
     for (size_t k = 0; k < LENGTH(grids); k++) {
@@ -300,10 +308,14 @@ static void sweeps(void)
         check("sweep as opened", same_swept(&s, &expected));
 
         check("whole scan remapped", uldrevin_remap(&grids[k], good.azimuths, 2, good.values, 4, good.qualities, 4, expected.ledger, 4,
-              expected.counts, 2, expected.quality_sums, 2, expected.value_sums, 2, expected.means, 2, expected.cell_qualities, 2) == 0);
+              expected.marks, 4, expected.counts, 2, expected.quality_sums, 2, expected.value_sums, 2, expected.means, 2,
+              expected.cell_qualities, 2) == 0);
+        check("its marks", memcmp(expected.marks, marks, sizeof marks) == 0);
         check("first ray taken", take(&s, &good, 0, 1) == 0 && s.sweep.taken == 1);
         check("its ledger", memcmp(s.ledger, expected.ledger, 2 * sizeof *s.ledger) == 0);
+        check("marks of the first ray", memcmp(s.marks, marks, 2 * sizeof *s.marks) == 0);
         check("ledger of the ray to come", memcmp(s.ledger + 2, held.ledger + 2, 2 * sizeof *s.ledger) == 0);
+        check("marks of the ray to come", memcmp(s.marks + 2, held.marks + 2, 2 * sizeof *s.marks) == 0);
         check("cells before closing", memcmp(s.means, held.means, sizeof s.means) == 0
               && memcmp(s.cell_qualities, held.cell_qualities, sizeof s.cell_qualities) == 0);
         check("second ray taken", take(&s, &good, 1, 1) == 0 && s.sweep.taken == 2 && s.sweep.closed == 0);
@@ -373,8 +385,8 @@ static void short_sweep_lists(void)
         check(with("open:", "short list", (int64_t)k), open_with(&scan, &s, n) == 6 && same_swept(&s, &held));
     }
     s = none;
-    for (size_t k = 0; k < 7; k++) {
-        size_t n[7] = {2, 4, 4, 4, 2, 2, 2};
+    for (size_t k = 0; k < 8; k++) {
+        size_t n[8] = {2, 4, 4, 4, 4, 2, 2, 2};
         n[k]--;
         check(with("take:", "short list", (int64_t)k), take_with(&s, &bad, 0, n) == 6 && same_swept(&s, &none));
     }

@@ -85,8 +85,12 @@ def any_gate(draw, grid):
     )
 
 
+# How far gates lie to the west or south of a line: on it, up to 3 centimetres beside it, and at both sides of each limit of the mark.
+FROM_LINE = (-50, -49, *range(-3, 4), 50, 51)
+
+
 def radolan_lines(draw):
-    """Gates on a cell's line and up to 3 centimetres to either side of it, where the line bounds the grid or lies in it."""
+    """Gates about a cell's line, where the line bounds the grid or lies in it."""
     for side in (10_000, 10_000_000, 100_000, 47_625) + tuple(draw.randint(10_000, 10_000_000) for _ in range(44)):
         gate = any_gate(draw, RADOLAN_GRIDS[0])
         x, y = position(gate)
@@ -94,7 +98,7 @@ def radolan_lines(draw):
         columns, rows = (draw.randint(1, min(1_500, 1_000_000_000 // side)) for _ in range(2))
         column, row = draw.randrange(columns), draw.randrange(rows)
         # A line number k is the west or south line of column or row k.
-        for step in range(-3, 4):
+        for step in FROM_LINE:
             for line in {0, 1, column, columns - 1, columns}:
                 corner_x, corner_y = x - line * side + step, y - row * side - side // 2
                 yield gate._replace(grid=Radolan(corner_x, corner_y, side, columns, rows))
@@ -144,7 +148,7 @@ def range_before_line(gate, axis):
 
 
 def hrap_lines(draw):
-    """Gates a few centimetres before, on and behind a line of the mesh, which bounds the grid or lies in it."""
+    """Gates a few centimetres before, on and behind a line of the mesh, and 2 metres behind; it bounds the grid or lies in it."""
     for axis in (0, 1):
         found = 0
         while found < 30:
@@ -156,7 +160,7 @@ def hrap_lines(draw):
             first, second = (mesh_cell(gate._replace(range=distance)) for distance in (near, near + 1))
             line, across = max(first[axis], second[axis]), second[1 - axis]
             # The line is the grid's west or south edge, its east or north edge, or between its two halves.
-            for distance, before in product(range(near - 2, near + 4), (0, 10, 5)):
+            for distance, before in product((*range(near - 2, near + 4), near + 200), (0, 10, 5)):
                 i, j = (line - before, across - 5) if axis == 0 else (across - 5, line - before)
                 yield gate._replace(range=distance, grid=Hrap(i, j, 10, 10))
 

@@ -5,6 +5,7 @@ from operator import itemgetter
 
 import damaged_records
 import good_records
+import marked_gates
 from compare_record import described
 from good_records import EDGES
 from good_scans import AZIMUTHS, FARTHEST, QUALITIES, SHEET, VALUES, any_azimuths, any_site, at_corner, filled, limited
@@ -151,6 +152,11 @@ def too_many():
         yield f"{words}, with zeros to 200,000 bytes", data.ljust(200_000, b"\0")
 
 
+def at_limits_of_the_mark(draw):
+    """Some of the scans with gates at both sides of each limit of the mark."""
+    return [aimed.scan for aimed in draw.sample(marked_gates.aimed_scans(), 24)]
+
+
 def every_sheet_group():
     draw = random.Random(SEED)
     yield "good records", good_ones(draw, 250)
@@ -165,6 +171,7 @@ def every_ledger_group():
     yield "damaged records", damaged_ones(25)
     yield "records up to the longest and inputs of 200,000 bytes", large_ones(draw)
     yield "records of too many rays or gates", too_many()
+    yield "records at both sides of each limit of the mark", with_words(at_limits_of_the_mark(draw))
 
 
 def sheet_groups():
@@ -220,18 +227,28 @@ def any_gate(draw, kind):
     side = Hrap.side if kind is Hrap else draw.choice((10_000, 100_000, 10_000_000, draw.randint(10_000, 10_000_000)))
     columns, rows = draw.choice(((1, 1), (1_500, 1_500), (draw.randint(1, 1_500), draw.randint(1, 30))))
     away_x, away_y = draw.randint(-1, columns), draw.randint(-1, rows)
-    # For RADOLAN the gate often lies on an edge or one centimetre beside it.
+    # For RADOLAN the gate often lies on an edge, one centimetre beside it or at a limit of the mark.
+    edges = (-1, 0, 1, 49, 50, side - 51, side - 50, side - 1)
     corner_x, corner_y = (
-        place - away * side - draw.choice((-1, 0, 1, side - 1, draw.randrange(side)))
+        place - away * side - draw.choice((draw.choice(edges), draw.randrange(side)))
         for place, away in ((x, away_x), (y, away_y))
     )
     return latitude, longitude, azimuth, distance, at_corner(kind, corner_x, corner_y, side, columns, rows)
 
 
+def gate_words(latitude, longitude, azimuth, distance, grid):
+    return latitude, longitude, azimuth, distance, NAMES[type(grid)][4], *grid
+
+
 def any_gates(draw):
     for kind, _ in product(KINDS, range(200)):
-        *gate, grid = any_gate(draw, kind)
-        yield *gate, NAMES[kind][4], *grid
+        yield gate_words(*any_gate(draw, kind))
+
+
+def aimed_gates(draw):
+    """Some of the gates at both sides of each limit of the mark."""
+    for gate in draw.sample(list(marked_gates.aimed_gates()), 200):
+        yield gate_words(gate.latitude, gate.longitude, gate.azimuth, gate.range, gate.grid)
 
 
 def at_ends(draw):
@@ -308,6 +325,7 @@ def every_gate_group():
     draw = random.Random(SEED + 2)
     for name, chosen in (
         ("gates of both kinds", any_gates(draw)),
+        ("gates at both sides of each limit of the mark", aimed_gates(draw)),
         ("gates at both sides of each limit", at_ends(draw)),
         ("gates with several numbers at a limit", several_wrong(draw)),
         ("other words", chain(other_words(), unknown_bytes())),

@@ -20,6 +20,7 @@ BINDING = ROOT / "bindings" / "python"
 sys.path.insert(0, str(BINDING))
 
 import uldrevin  # noqa: E402
+from crossing import CROSSING  # noqa: E402
 from uldrevin import BY_QUALITY, NO_ECHO, NO_MEAN, NOT_MEASURED, OUTSIDE, PLAIN, Hrap, Placement, Radolan, Site, flat  # noqa: E402
 
 try:
@@ -27,9 +28,12 @@ try:
 except ImportError:
     numpy = None
 
-RECORDS = [(name, (ROOT / "examples" / name).read_bytes()) for name in ("hrap.scan", "radolan.scan")]
+RECORDS = [
+    *((name, (ROOT / "examples" / name).read_bytes()) for name in ("hrap.scan", "radolan.scan")),
+    ("crossing", uldrevin.write_record(*CROSSING)),
+]
 
-# Document 01's example for the sheet program; both gates lie in the second cell.
+# Document 01's example for the sheet program; both gates lie in the second cell, on its west edge, and are marked.
 EXAMPLE = uldrevin.Scan(Site(600_000, -1_050_000), Hrap(400, 932, 2, 1), BY_QUALITY, 0, 100_000, [0], [1, 7], [90, 10])
 RASTER = Radolan(-52_346_220, -465_864_470, 100_000, 900, 900)
 
@@ -78,11 +82,20 @@ def plain_lists(remapped):
 
 def gates(checks):
     radar, grid = Site(353_300, -972_800), Hrap(573, 320, 6, 5)
-    # Both lines stand in README.md.
-    inside, outside = Placement(82_026_264, -609_049_159, 12), Placement(81_909_098, -609_064_994, None)
-    checks.equal("a gate inside", uldrevin.place(radar, grid, 2_700_000, 450_000), inside)
-    checks.equal("a gate outside", uldrevin.place(radar, grid, 2_700_000, 550_000), outside)
-    checks.equal("a site as a plain pair", uldrevin.place((353_300, -972_800), grid, 2_700_000, 550_000), outside)
+    # The grid's west edge is at x = 81,915,000. Ranges of 450,000, 545,000 and 550,000 stand in README.md.
+    placed = {
+        450_000: Placement(82_026_264, -609_049_159, 12, False),
+        544_920: Placement(81_915_050, -609_064_190, 12, False),
+        544_925: Placement(81_915_044, -609_064_191, 12, True),
+        545_000: Placement(81_914_957, -609_064_203, None, True),
+        545_010: Placement(81_914_945, -609_064_204, None, False),
+        550_000: Placement(81_909_098, -609_064_994, None, False),
+    }
+    for distance, expected in placed.items():
+        got = uldrevin.place(radar, grid, 2_700_000, distance)
+        checks.equal(f"a gate at {distance}", got, expected)
+        checks.equal(f"the type of its mark at {distance}", type(got.mark), bool)
+    checks.equal("a site as a plain pair", uldrevin.place((353_300, -972_800), grid, 2_700_000, 550_000), placed[550_000])
     checks.equal("a RADOLAN cell", uldrevin.place(Site(510_000, 100_000), RASTER, 0, 0).cell, 404_623)
     checks.refused(3, "range over its limit", lambda: uldrevin.place(radar, grid, 0, 46_000_001))
     checks.refused(4, "latitude below its limit", lambda: uldrevin.place(Site(199_999, 0), grid, 0, 0))
@@ -102,14 +115,19 @@ def angles(checks):
 # Whole scans.
 
 
-def ledger_by_places(scan, gates_in_ray):
+def marked(grid, placement):
+    """Document 02's rule for the mark of a position."""
+    if isinstance(grid, Radolan):
+        x, y, side = grid.x, grid.y, grid.side
+    else:
+        x, y, side = (grid.i - 401) * 476_250, (grid.j - 1_601) * 476_250, 476_250
+    return any(not 50 <= length % side < side - 50 for length in (placement.x - x, placement.y - y))
+
+
+def placements_of(scan, gates_in_ray):
     """Each gate placed by itself."""
-    ledger = []
-    for azimuth in flat(scan.azimuths):
-        for gate in range(gates_in_ray):
-            cell = uldrevin.place(scan.site, scan.grid, azimuth, scan.first + gate * scan.spacing).cell
-            ledger.append(OUTSIDE if cell is None else cell)
-    return ledger
+    centres = [scan.first + gate * scan.spacing for gate in range(gates_in_ray)]
+    return [uldrevin.place(scan.site, scan.grid, azimuth, centre) for azimuth in flat(scan.azimuths) for centre in centres]
 
 
 def tally(scan, ledger):
@@ -125,23 +143,30 @@ def tally(scan, ledger):
     return counts, quality_sums, value_sums
 
 
-def expected_lists(scan, gates_in_ray):
-    ledger = ledger_by_places(scan, gates_in_ray)
+def expected_lists(scan, placements):
+    ledger = [OUTSIDE if placement.cell is None else placement.cell for placement in placements]
+    marks = [int(marked(scan.grid, placement)) for placement in placements]
     counts, quality_sums, value_sums = tally(scan, ledger)
     divisors = quality_sums if scan.weighting == BY_QUALITY else counts
     means = [value_sum // divisor if divisor else NO_MEAN for value_sum, divisor in zip(value_sums, divisors)]
     qualities = [quality_sum // count if count else 0 for quality_sum, count in zip(quality_sums, counts)]
-    return [ledger, counts, quality_sums, value_sums, means, qualities]
+    return [ledger, marks, counts, quality_sums, value_sums, means, qualities]
 
 
 def scans(checks):
     for name, data in RECORDS:
         head, scan = uldrevin.record_head(data), uldrevin.read_record(data)
+        placements = placements_of(scan, head.gates)
+        for placement in placements:
+            checks.equal(f"the mark of {placement} of {name}", placement.mark, marked(scan.grid, placement))
         for weighting in (PLAIN, BY_QUALITY):
             asked = scan._replace(weighting=weighting)
-            expected = expected_lists(asked, head.gates)
+            expected = expected_lists(asked, placements)
             for part, got, wanted in zip(uldrevin.Remapped._fields, plain_lists(uldrevin.remap(*asked)), expected):
                 checks.equal(f"{part} of {name}, weighting {weighting}", got, wanted)
+    ledger, marks, *_ = plain_lists(uldrevin.remap(*CROSSING))
+    met = {(cell == OUTSIDE, value == NOT_MEASURED, mark) for cell, value, mark in zip(ledger, CROSSING.values, marks)}
+    checks.equal("gates inside and outside, measured and not, marked and not", len(met), 8)
 
 
 def rows_of(numbers, width):
@@ -194,13 +219,13 @@ def kinds_of_lists(checks):
     """What comes back is typed, and with numpy shaped."""
     scan = uldrevin.read_record(RECORDS[0][1])
     lists = [*scan[5:], *uldrevin.remap(*scan)]
-    letters = "IHBIIIQHB"
+    letters = "IHBIBIIQHB"
     if numpy is None:
         checks.equal("the types of arrays", [numbers.typecode for numbers in lists], list(letters))
         return
     checks.equal("the dtypes", [numbers.dtype for numbers in lists], [numpy.dtype(letter) for letter in letters])
     by_gate, by_cell = (12, 20), (5, 6)
-    shapes = [(12,), by_gate, by_gate, by_gate, *[by_cell] * 5]
+    shapes = [(12,), *[by_gate] * 4, *[by_cell] * 5]
     checks.equal("the shapes", [numbers.shape for numbers in lists], shapes)
 
 
@@ -284,9 +309,9 @@ def held_by(sweep):
 
 def part_way(scan, head, taken):
     """What a sweep holds once it has taken so many rays of a scan, by the whole scan of these rays."""
-    ledger, *sums, means, qualities = plain_lists(uldrevin.remap(*scan[:5], *some_rays(scan, head, 0, taken)))
-    ledger += [OUTSIDE] * (head.gates * (head.rays - taken))
-    return [taken, False, ledger, *sums, [NO_MEAN] * len(means), [0] * len(qualities)]
+    ledger, marks, *sums, means, qualities = plain_lists(uldrevin.remap(*scan[:5], *some_rays(scan, head, 0, taken)))
+    left = head.gates * (head.rays - taken)
+    return [taken, False, ledger + [OUTSIDE] * left, marks + [0] * left, *sums, [NO_MEAN] * len(means), [0] * len(qualities)]
 
 
 def sweeps(checks):
@@ -350,6 +375,20 @@ def swept_lists(checks):
         checks.raised(AttributeError, "", f"a sweep's {name}, set", lambda: setattr(sweep, name, getattr(sweep, name)))
 
 
+def fresh_lists(checks):
+    """Each call has lists of its own: what it gave stays when another scan of as many gates and cells is remapped or swept."""
+    other = EXAMPLE._replace(azimuths=[900_000], first=50_000, values=[3, NOT_MEASURED], qualities=[50, 60])
+    first, sweep = uldrevin.remap(*EXAMPLE), opened(EXAMPLE, 1, 2)
+    sweep.take(*EXAMPLE[5:])
+    swept, held = sweep.close(), plain_lists(first)
+    checks.equal("the marks of two scans", [flat(uldrevin.remap(*scan).marks) for scan in (EXAMPLE, other)], [[1, 1], [0, 0]])
+    again = opened(other, 1, 2)
+    checks.equal("a second sweep", held_by(again), [0, False, [OUTSIDE] * 2, *[[0, 0]] * 4, [NO_MEAN] * 2, [0, 0]])
+    again.take(*other[5:])
+    checks.equal("the lists of the first scan", plain_lists(first), held)
+    checks.equal("the lists of the first sweep", plain_lists(swept), held)
+
+
 def fed_sweeps(checks):
     """After a refused ray the sweep goes on, and so does the generator."""
     scan, head, sweep = sweep_of(RECORDS[0][1])
@@ -394,7 +433,7 @@ def held_rays(checks):
     """During a call the given arrays are held, and so are the sweep's own, and another thread's ray waits."""
     library, sweep = uldrevin._library, opened(EXAMPLE, 2, 2)
     lists = [array(letter, numbers) for letter, numbers in zip("IHB", EXAMPLE[5:])]
-    own = [] if numpy is not None else [sweep.ledger, sweep.counts, sweep.quality_sums, sweep.value_sums]
+    own = [] if numpy is not None else [sweep.ledger, sweep.marks, sweep.counts, sweep.quality_sums, sweep.value_sums]
     uldrevin._library = meddled = Meddled(library, [*lists, *own])
     try:
         sweep.take(*lists)
@@ -437,7 +476,9 @@ def opening_refusals(checks):
     for number, change in [*wrong.items(), (1, {"rays": 2**63 - 1}), (1, {"rays": -1}), (2, {"gates": 2**32 + 2})]:
         checks.refused(number, f"a sweep with {change}", lambda: uldrevin.Sweep(**(good | change)))
     checks.raised(ValueError, "rays is 9223372036854775808", "a sweep of 2^63 rays", lambda: uldrevin.Sweep(**good | {"rays": 2**63}))
-    checks.raised(TypeError, "gates has to be a whole number", "2.0 gates", lambda: uldrevin.Sweep(**good | {"gates": 2.0}))
+    for name, given in {"gates": 2.0, "rays": None, "spacing": "100000", "first": [0]}.items():
+        words = f"{name} has to be a whole number"
+        checks.raised(TypeError, words, f"a sweep with {name} {given!r}", lambda: uldrevin.Sweep(**good | {name: given}))
 
 
 def sweep_refusals(checks):
@@ -449,6 +490,7 @@ def sweep_refusals(checks):
         (6, "no rays with values", ([], [1], [101])),
         (6, "a value too few", (3_600_000, [1], [101, 10])),
         (6, "a quality too many", (0, [1, 7], [90, 10, 101])),
+        (6, "values of ten rays", (0, [1, 7] * 10, [90, 10])),
         (7, "an azimuth of 360 degrees", (3_600_000, [1, 7], [101, 10])),
         (8, "a quality of 101", (0, [1, NOT_MEASURED], [90, 101])),
     ]
@@ -467,6 +509,14 @@ def sweep_refusals(checks):
     sweep_refused(checks, 19, "closed again", sweep, sweep.close)
     pair = opened(EXAMPLE, 2, 2)
     sweep_refused(checks, 8, "two rays, one bad", pair, lambda: pair.take([0, 0], [[1, 7], [1, 7]], [[90, 10], [90, 101]]))
+
+
+def lengthened_lists(checks):
+    """Without numpy a caller can lengthen a list of the sweep, and it is refused."""
+    for name in ("ledger", "marks", "counts", "quality_sums", "value_sums"):
+        sweep = opened(EXAMPLE, 1, 2)
+        getattr(sweep, name).append(0)
+        sweep_refused(checks, 6, f"a sweep with a longer list of {name}", sweep, lambda: sweep.take(*EXAMPLE[5:]))
 
 
 def with_sums(*sums):
@@ -659,7 +709,14 @@ def rays_not_taken(checks):
     sweep = opened(EXAMPLE, 3, 2)
     wrong = [
         (TypeError, "azimuths must be a list of whole numbers, and is 0.5", (0.5, [1, 7], [90, 10])),
+        (TypeError, "azimuths must be a list of whole numbers, and is None", (None, [1, 7], [90, 10])),
+        (TypeError, "azimuths must hold whole numbers", ("0", [1, 7], [90, 10])),
         (TypeError, "values must be a list of whole numbers, and is 1", (0, 1, [90, 10])),
+        (TypeError, "values must hold whole numbers", (0, "17", [90, 10])),
+        (TypeError, "values must hold whole numbers", (0, [1.0, 7.0], [90, 10])),
+        (TypeError, "qualities must be a list of whole numbers, and is None", (0, [1, 7], None)),
+        (TypeError, "qualities must hold whole numbers", (0, [1, 7], [90, None])),
+        (ValueError, "values holds -7 at place 1", (0, [1, -7], [90, 10])),
         (ValueError, "azimuths holds -1 at place 0", (-1, [1, 7], [90, 10])),
         (ValueError, "azimuths holds 4294967296 at place 0", (2**32, [1, 7], [90, 10])),
         (ValueError, "qualities holds 256 at place 1", (0, [1, 7], [90, 256])),
@@ -677,9 +734,13 @@ def rays_not_taken(checks):
             (ValueError, "values have the shape (2,) and qualities (1,)", (0, row, qualities[:1])),
             (ValueError, "one of the sweep's own", (sweep.counts.ravel(), [[1, 7]] * 2, [[90, 10]] * 2)),
             (ValueError, "one of the sweep's own", (0, sweep.ledger.view("uint16")[0, :2], qualities)),
+            (ValueError, "one of the sweep's own", (0, row, sweep.marks[2])),
         ]
     else:
-        wrong.append((ValueError, "one of the sweep's own", (sweep.counts, [1, 7] * 2, [90, 10] * 2)))
+        wrong += [
+            (ValueError, "one of the sweep's own", (sweep.counts, [1, 7] * 2, [90, 10] * 2)),
+            (ValueError, "one of the sweep's own", ([0] * 3, [1, 7] * 3, sweep.marks)),
+        ]
     for kind, words, given in wrong:
         checks.raised(kind, words, f"a sweep given {given}", lambda: sweep.take(*given))
     checks.equal("the sweep after what it does not take", held_by(sweep), held_by(opened(EXAMPLE, 3, 2)))
@@ -728,11 +789,13 @@ def main():
     checks = Checks()
     for part in (gates, angles, scans, forms_of_lists, kinds_of_lists, held_arrays, scan_refusals, record_refusals, refusal_itself):
         part(checks)
-    for part in (sweeps, forms_of_rays, swept_lists, fed_sweeps, held_rays, opening_refusals, sweep_refusals, altered_sums):
+    for part in (sweeps, forms_of_rays, swept_lists, fresh_lists, fed_sweeps, held_rays, opening_refusals, sweep_refusals, altered_sums):
         part(checks)
     for part in (records, fields, numbers_of_64_bits, numbers_not_held, lists_not_taken, rays_not_taken, libraries):
         part(checks)
-    if numpy is not None:
+    if numpy is None:
+        lengthened_lists(checks)
+    else:
         arrays_not_taken(checks)
     print(f"{checks.made} checks {'without numpy' if numpy is None else f'with numpy {numpy.__version__}'}")
     return 1 if checks.differences else 0

@@ -14,8 +14,8 @@ from second_program.sweep import Sums
 
 STATE = sizeof(Sweep) // sizeof(c_int64)  # numbers
 SUMS = Sums._fields
-LEDGER_AND_SUMS = Lent._fields[:4]
-CELLS = Lent._fields[4:]  # means and cell qualities
+TAKEN = Lent._fields[:5]  # what taking writes: ledger, marks and sums
+CELLS = Lent._fields[5:]  # means and cell qualities
 EXACT = {}  # no step from any length
 
 
@@ -31,7 +31,7 @@ def rays_of(scan, start, end):
 
 
 class Desk:
-    """What the caller of a sweep holds, each with margins: the state, and the six lists that are lent to be written.
+    """What the caller of a sweep holds, each with margins: the state, and the lists that are lent to be written.
 
     Each call answers with the second program's number and the differences. A step makes the length of a list wrong.
     """
@@ -64,11 +64,11 @@ class Desk:
         return self.compared("open", arguments, expected, SUMS, {"scan": head})
 
     def take(self, rays, steps=EXACT):
-        ledger, *sums = self.seen(LEDGER_AND_SUMS, steps)
-        expected = rules.take(self.sweep(), rays, ledger, Sums(*sums))
+        ledger, marks, *sums = self.seen(TAKEN, steps)
+        expected = rules.take(self.sweep(), rays, ledger, marks, Sums(*sums))
         given = dict(zip(GIVEN, given_lists(rays)))
-        arguments = sweep_within(self.state), *lending_all(given.values()), *self.lent(LEDGER_AND_SUMS, steps)
-        return self.compared("take", arguments, expected, LEDGER_AND_SUMS, given)
+        arguments = sweep_within(self.state), *lending_all(given.values()), *self.lent(TAKEN, steps)
+        return self.compared("take", arguments, expected, TAKEN, given)
 
     def close(self, steps=EXACT):
         lengths = [len(cells) for cells in self.seen(CELLS, steps)]

@@ -32,7 +32,7 @@ def named(name, *values):
 NUMBER_OF = {"rays": 1, "gates": 2, "first": 3, "spacing": 3, "latitude": 4, "longitude": 4}
 EMPTY = -(2**20)  # more than any list of a good scan is long
 LISTS = (*GIVEN, *Lent._fields)
-CELL_LISTS = Lent._fields[1:]
+CELL_LISTS = Lent._fields[2:]
 WRONG_LISTS = (
     Change(6, {}, {"values": 1}, {}),
     Change(7, {}, {}, {"azimuths": (999, 3_600_000)}),
@@ -81,7 +81,8 @@ def scan_changes():
     for name, step in product(LISTS, (-1, 1, 3, EMPTY)):
         yield Change(6, {}, {name: step}, {})
     yield Change(6, {}, {"values": 1, "qualities": -1}, {})
-    yield Change(6, {}, {"values": 5, "qualities": 5, "ledger": 5}, {})
+    yield Change(6, {}, {"ledger": 1, "marks": -1}, {})
+    yield Change(6, {}, {"values": 5, "qualities": 5, "ledger": 5, "marks": 5}, {})
     yield Change(6, {}, dict.fromkeys(CELL_LISTS, 1), {})
     yield Change(6, {}, dict.fromkeys(CELL_LISTS, -1), {})
     yield Change(6, {}, dict.fromkeys(LISTS, EMPTY), {})
@@ -161,7 +162,7 @@ def apply(good, changes):
     rays = lendable(scan.rays, 721, good.rays)
     gates = rays * lendable(scan.gates, 1_001, good.gates)
     cells = lendable(scan.grid.columns, 1_501, good.grid.columns) * lendable(scan.grid.rows, 1_501, good.grid.rows)
-    lengths = dict(zip(LISTS, (rays, gates, gates, gates, *[cells] * 5)))
+    lengths = dict(zip(LISTS, (rays, *[gates] * 4, *[cells] * 5)))
     for change in changes:
         for name, step in change.lengths.items():
             lengths[name] = max(0, lengths[name] + step)

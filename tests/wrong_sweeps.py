@@ -1,5 +1,5 @@
 """Operations of a sweep in every stage, with something changed: numbers of the state, lengths, contents, alone and together."""
-from itertools import combinations, product
+from itertools import combinations, cycle, product
 from typing import NamedTuple
 
 import wrong_scans
@@ -7,7 +7,7 @@ from far_numbers import FAR, far_from
 from second_program.placement import Hrap
 from second_program.record import head_of
 from second_program.scan import Lent
-from sweep_calls import CELLS, LEDGER_AND_SUMS, SUMS, Rays
+from sweep_calls import CELLS, SUMS, TAKEN, Rays
 from wrong_scans import EMPTY, GIVEN, HRAP_SCAN, RADOLAN_SCAN, changes_of_each, lendable, resized
 
 # The first of these that applies is given.
@@ -16,7 +16,7 @@ ORDER = {
     "take": (19, 17, 1, 2, 3, 4, 5, 6, 7, 8, 31),
     "close": (19, 17, 1, 2, 3, 4, 5, 18, 6),
 }
-LISTS = {"take": (*GIVEN, *LEDGER_AND_SUMS), "close": (*SUMS, *CELLS)}
+LISTS = {"take": (*GIVEN, *TAKEN), "close": (*SUMS, *CELLS)}
 
 GROUP = 2  # rays
 
@@ -103,8 +103,9 @@ def case(operation, scan, stage, changes):
     rays = next((change.group for change in changes if change.group != GROUP), GROUP)
     gates = lendable(state["gates"], 1_001, scan.gates)
     cells = lendable(state["columns"], 1_501, scan.grid.columns) * lendable(state["rows"], 1_501, scan.grid.rows)
-    ledger = lendable(state["rays"], 721, scan.rays) * gates
-    lengths = dict(zip((*GIVEN, *Lent._fields), (rays, rays * gates, rays * gates, ledger, *[cells] * 5)))
+    announced = lendable(state["rays"], 721, scan.rays) * gates
+    exact = (rays, *[rays * gates] * 2, *[announced] * 2, *[cells] * 5)
+    lengths = dict(zip((*GIVEN, *Lent._fields), exact))
     for change in changes:
         for name, step in change.lengths.items():
             lengths[name] = max(0, lengths[name] + step)
@@ -181,9 +182,12 @@ def length_changes(operation):
         yield Change(6, lengths={"values": 1, "qualities": -1})
         yield Change(6, lengths={"values": 5, "qualities": 5})
         yield Change(6, lengths={"azimuths": 2**16})
-        # A ledger of the group alone, and one of the rays still to come.
-        yield Change(6, lengths={"ledger": -20})
-        yield Change(6, lengths={"ledger": -10})
+        yield Change(6, lengths={"ledger": 1, "marks": -1})
+        # Entries and marks of the group alone, and of the rays still to come.
+        for step in (-20, -10):
+            yield Change(6, lengths={"ledger": step})
+            yield Change(6, lengths={"marks": step})
+            yield Change(6, lengths={"ledger": step, "marks": step})
 
 
 def group_changes():
@@ -229,14 +233,14 @@ STATE_PAIRED = (
 TAKE_PAIRED = (
     Change(0, group=7),
     Change(6, group=0),
-    *(Change(6, lengths={name: step}) for name, step in zip(LISTS["take"], (1, -1, 1, -1, 1, -1, 1))),
+    *(Change(6, lengths={name: step}) for name, step in zip(LISTS["take"], cycle((1, -1)))),
     Change(7, contents={"azimuths": (0, 3_600_000)}),
     Change(7, contents={"azimuths": (999, 2**32 - 1)}),
     Change(8, contents={"qualities": (0, 101)}),
     Change(8, contents={"qualities": (999, 255)}),
     *FULL,
 )
-CLOSE_PAIRED = tuple(Change(6, lengths={name: step}) for name, step in zip(LISTS["close"], (1, -1, 1, -1, 1)))
+CLOSE_PAIRED = tuple(Change(6, lengths={name: step}) for name, step in zip(LISTS["close"], cycle((1, -1))))
 PAIRED = {"take": STATE_PAIRED + TAKE_PAIRED, "close": STATE_PAIRED + CLOSE_PAIRED}
 
 

@@ -1,15 +1,16 @@
 """Radar gates on the cells of an HRAP or a RADOLAN grid: Uldrevin's proved library for Python.
 
 Whole numbers only. Angles are ten-thousandths of a degree, lengths are centimetres. Gates are numbered ray by ray, cells row by row
-from the south-west, so that row 0 is the southernmost. Document 01's example, two gates in the second of two cells:
+from the south-west, so that row 0 is the southernmost. Document 01's example, two gates in the second of two cells, on the line between
+the two, and so with the mark 1:
 
 >>> import uldrevin
 >>> site = uldrevin.Site(latitude=600_000, longitude=-1_050_000)
 >>> grid = uldrevin.Hrap(i=400, j=932, columns=2, rows=1)
 >>> remapped = uldrevin.remap(site, grid, uldrevin.BY_QUALITY, first=0, spacing=100_000,
 ...                           azimuths=[0], values=[1, 7], qualities=[90, 10])
->>> uldrevin.flat(remapped.ledger)
-[1, 1]
+>>> uldrevin.flat(remapped.ledger), uldrevin.flat(remapped.marks)
+([1, 1], [1, 1])
 >>> [uldrevin.flat(cells)[1] for cells in (remapped.means, remapped.cell_qualities, remapped.counts)]
 [1, 50, 2]
 
@@ -32,7 +33,7 @@ ULDREVIN_LIBRARY names, or else target/libuldrevin.so of the repository.
 import os
 from array import array
 from contextlib import ExitStack
-from ctypes import CDLL, POINTER, Structure, c_int64, c_size_t, c_uint32, c_uint64, c_void_p
+from ctypes import CDLL, POINTER, Structure, c_int64, c_size_t, c_uint8, c_uint32, c_uint64, c_void_p
 from math import prod
 from operator import index
 from pathlib import Path
@@ -119,11 +120,16 @@ class Hrap(NamedTuple):
 
 
 class Placement(NamedTuple):
-    """The position of a gate on the map, and its cell: row x columns + column, or None outside the grid."""
+    """The position of a gate on the map; its cell: row x columns + column, or None outside the grid; and its mark, inside or outside.
+
+    The mark is True where the remainder of x less the x of the grid's south-west corner, by the side and never negative, is under 50 or at
+    least the side less 50, or the same for y. The edge lines of cells are taken as prolonged beyond the grid.
+    """
 
     x: int
     y: int
     cell: int | None
+    mark: bool
 
 
 class ScanHead(NamedTuple):
@@ -152,9 +158,10 @@ class Scan(NamedTuple):
 
 
 class Remapped(NamedTuple):
-    """The ledger, an entry for each gate; then the sums and the published numbers, one for each cell."""
+    """The ledger and the marks, an entry and a mark, 1 or 0, for each gate; then the sums and the published numbers, one for each cell."""
 
     ledger: Any
+    marks: Any
     counts: Any
     quality_sums: Any
     value_sums: Any
@@ -200,10 +207,10 @@ def _declare(library):
     one_list = [c_void_p, c_size_t]
     site, grid, scan, sweep, length = map(POINTER, (_Site, _Grid, _Scan, _Sweep, c_uint64))
     arguments = {
-        "place": [site, grid, c_int64, c_int64, POINTER(c_uint32), POINTER(c_int64), POINTER(c_int64)],
-        "remap": [scan, *one_list * 9],
+        "place": [site, grid, c_int64, c_int64, POINTER(c_uint32), POINTER(c_int64), POINTER(c_int64), POINTER(c_uint8)],
+        "remap": [scan, *one_list * 10],
         "sweep_open": [scan, *one_list * 3, sweep],
-        "sweep_take": [sweep, *one_list * 7],
+        "sweep_take": [sweep, *one_list * 8],
         "sweep_close": [sweep, *one_list * 5],
         "record_head": [*one_list, scan],
         "record_field": [*one_list, c_uint32, length, length],
@@ -405,27 +412,32 @@ def place(site, grid, azimuth, range):
     """The placement of one gate.
 
     >>> grid = Radolan(x=-52_346_220, y=-465_864_470, side=100_000, columns=900, rows=900)
-    >>> place(Site(510_000, 100_000), grid, azimuth=0, range=0).cell
-    404623
+    >>> place(Site(510_000, 100_000), grid, azimuth=0, range=0)
+    Placement(x=0, y=-420928583, cell=404623, mark=False)
+    >>> place(Site(510_000, 100_000), grid._replace(x=-52_300_000), azimuth=0, range=0).mark  # on a line between two columns
+    True
     >>> place(Site(510_000, 100_000), grid, azimuth=3_600_000, range=0)
     Traceback (most recent call last):
     uldrevin.Refusal: refusal 7: an azimuth is not 0 to 3,599,999
     """
     numbers = _numbers(azimuth=azimuth, range=range)
-    cell, x, y = c_uint32(), c_int64(), c_int64()
-    _accept(_library.uldrevin_place(_site(site), _grid(grid), *numbers, cell, x, y))
-    return Placement(x.value, y.value, None if cell.value == OUTSIDE else cell.value)
+    cell, x, y, mark = c_uint32(), c_int64(), c_int64(), c_uint8()
+    _accept(_library.uldrevin_place(_site(site), _grid(grid), *numbers, cell, x, y, mark))
+    return Placement(x.value, y.value, None if cell.value == OUTSIDE else cell.value, mark.value != 0)
 
 
 def remap(site, grid, weighting, first, spacing, azimuths, values, qualities):
-    """The ledger, the sums and the published cells of a scan; the module's text has an example. A weighting other than 0 is by quality."""
+    """The ledger, the marks, the sums and the published cells of a scan; the module's text has an example.
+
+    A weighting other than 0 is by quality.
+    """
     head, lists = _given(Scan(site, grid, weighting, first, spacing, azimuths, values, qualities))
     # Asked with empty lists, the library refuses a wrong head by its number, before lists of its size are made.
-    number = _asked(_library.uldrevin_remap, head, *lists, *(array(letter) for letter in "IIIQHB"))
+    number = _asked(_library.uldrevin_remap, head, *lists, *(array(letter) for letter in "IBIIQHB"))
     if number != LENGTH_NOT_EXACT:
         raise Refusal(number)
-    cells = (head.grid.rows, head.grid.columns)
-    remapped = Remapped(_new("I", (head.rays, head.gates)), *(_new(letter, cells) for letter in "IIQHB"))
+    gates, cells = (head.rays, head.gates), (head.grid.rows, head.grid.columns)
+    remapped = Remapped(*(_new(letter, gates) for letter in "IB"), *(_new(letter, cells) for letter in "IIQHB"))
     _accept(_asked(_library.uldrevin_remap, head, *lists, *remapped))
     return remapped
 
@@ -447,13 +459,15 @@ class Sweep:
     (1, [0, 2])
     >>> sweep.take([900_000, 1_800_000], [[3, 5], [0, NOT_MEASURED]], [[60, 40], [100, 100]])
     >>> remapped = sweep.close()
+    >>> flat(remapped.marks)
+    [1, 1, 1, 0, 1, 1]
     >>> [flat(cells)[1] for cells in (remapped.means, remapped.cell_qualities, remapped.counts)]
     [1, 60, 5]
 
-    A refused ray, or a group of rays with one bad ray, changes nothing, and the sweep goes on without it. The ledger of the rays taken,
-    the sums, and after closing the cells, are those that remap gives for the whole scan of these rays, however they were divided, unless
-    the caller has altered a list. Until its ray is taken a gate's ledger entry is OUTSIDE; until the sweep is closed each mean is NO_MEAN
-    and each cell's quality 0. Threads that share a sweep wait for each other.
+    A refused ray, or a group of rays with one bad ray, changes nothing, and the sweep goes on without it. The ledger and the marks of the
+    rays taken, the sums, and after closing the cells, are those that remap gives for the whole scan of these rays, however they were
+    divided, unless the caller has altered a list. Until its ray is taken a gate's ledger entry is OUTSIDE and its mark 0; until the sweep
+    is closed each mean is NO_MEAN and each cell's quality 0. Threads that share a sweep wait for each other.
     """
 
     def __init__(self, site, grid, weighting, first, spacing, rays, gates):
@@ -464,12 +478,13 @@ class Sweep:
         number = _asked(_library.uldrevin_sweep_open, head, *(array(letter) for letter in "IIQ"), self._state)
         if number != LENGTH_NOT_EXACT:
             raise Refusal(number)
-        cells = (head.grid.rows, head.grid.columns)
+        gates, cells = (head.rays, head.gates), (head.grid.rows, head.grid.columns)
         sums = [_new(letter, cells) for letter in "IIQ"]
         _accept(_asked(_library.uldrevin_sweep_open, head, *sums, self._state))
-        self._lists = Remapped(_new("I", (head.rays, head.gates), OUTSIDE), *sums, _new("H", cells, NO_MEAN), _new("B", cells))
+        self._lists = Remapped(_new("I", gates, OUTSIDE), _new("B", gates), *sums, _new("H", cells, NO_MEAN), _new("B", cells))
 
     ledger = _own("ledger", "For each gate of all rays announced: its cell, or OUTSIDE.")
+    marks = _own("marks", "For each gate of all rays announced: its mark, 1 or 0; 0 until its ray is taken.")
     counts = _own("counts", "For each cell: the measured gates in it, of the rays taken.")
     quality_sums = _own("quality_sums", "For each cell: the sum of the qualities of these gates.")
     value_sums = _own("value_sums", "For each cell: the sum of the values of these gates, each times its quality if by quality.")
@@ -494,10 +509,11 @@ class Sweep:
         # The library is told lengths alone, and would take rays and gates that have changed places.
         if form == _BY_GATE and shape and shape != needed and prod(shape) == prod(needed):
             raise ValueError(f"values and qualities must have the shape {needed} for these azimuths, and have {shape}")
-        if any(_overlap(given, own) for given in lists for own in self._lists[:4]):
+        own = self._lists[:5]  # the ledger, the marks and the sums
+        if any(_overlap(given, written) for given in lists for written in own):
             raise ValueError("a list that is given must not be one of the sweep's own")
         with self._lock:
-            _accept(_asked(_library.uldrevin_sweep_take, self._state, *lists, *self._lists[:4]))
+            _accept(_asked(_library.uldrevin_sweep_take, self._state, *lists, *own))
 
     def feed(self, rays):
         """Takes rays until there are no more: each is a tuple of what take is given.
@@ -520,13 +536,13 @@ class Sweep:
             self.take(*ray)
 
     def close(self):
-        """Publishes means and cell qualities, and ends the sweep. The six lists, which are the sweep's own, come back as from remap.
+        """Publishes means and cell qualities, and ends the sweep. The lists, which are the sweep's own, come back as from remap.
 
         From sums that the caller has altered, a mean above 65,533 becomes NO_MEAN and a quality above 100 becomes 100. Refusals, in this
         order: 19, 18, 6.
         """
         with self._lock:
-            _accept(_asked(_library.uldrevin_sweep_close, self._state, *self._lists[1:]))
+            _accept(_asked(_library.uldrevin_sweep_close, self._state, *self._lists[2:]))  # the sums and the cells
         return self._lists
 
 

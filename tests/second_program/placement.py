@@ -1,6 +1,6 @@
-"""Document 01's placement of one gate: from the arc to the position, the column, the row, the cell and the refusals.
+"""Document 01's placement of one gate: from the arc to the position, the column, the row, the cell and the refusals; T-02's mark.
 
-It is written from document 01 alone and shares nothing with the library.
+It is written from document 01 and T-02 alone and shares nothing with the library.
 Angles are whole numbers of ten-thousandths of a degree, lengths are whole numbers of centimetres.
 """
 from fractions import Fraction
@@ -12,6 +12,7 @@ from second_program import sine
 
 ONE_PLUS_SINE_60 = Fraction("1.86602540378")
 OUTSIDE = 4_294_967_295
+NEAR = 50  # centimetres from a line
 
 
 class Sphere(NamedTuple):
@@ -165,6 +166,18 @@ def cell(grid, x, y):
     return OUTSIDE
 
 
+def near_line(distance, side):
+    """Whether the remainder by the side, never negative, is under 50 or at least the side less 50."""
+    remainder = distance % side
+    return remainder < NEAR or remainder >= side - NEAR
+
+
+def mark(grid, x, y):
+    """1 for a position near a line, 0 for any other. The lines go on beyond the grid."""
+    corner_x, corner_y = grid.corner
+    return int(near_line(x - corner_x, grid.side) or near_line(y - corner_y, grid.side))
+
+
 def refusal(latitude, longitude, grid, azimuth, range):
     """The refusal number of one gate, 0 where none applies."""
     if not 0 <= range <= 46_000_000:
@@ -179,17 +192,18 @@ def refusal(latitude, longitude, grid, azimuth, range):
 
 
 class Placed(NamedTuple):
-    """The answer for one gate. A refusal has no cell and no position."""
+    """The answer for one gate. A refusal has no cell, no position and no mark."""
 
     refusal: int
     cell: int | None
     x: int | None
     y: int | None
+    mark: int | None
 
 
 def place(latitude, longitude, grid, azimuth, range):
     number = refusal(latitude, longitude, grid, azimuth, range)
     if number != 0:
-        return Placed(number, None, None, None)
+        return Placed(number, None, None, None, None)
     x, y = position(latitude, longitude, grid.sphere, azimuth, range)
-    return Placed(0, cell(grid, x, y), x, y)
+    return Placed(0, cell(grid, x, y), x, y, mark(grid, x, y))

@@ -13,7 +13,7 @@ MOST_GATES = 4_096
 MOST_CELLS = 1_024
 TOO_LARGE = b"too large\n"
 
-HEADING = "ray gate azimuth range value quality x y column row".split()
+HEADING = "ray gate azimuth range value quality x y column row mark".split()
 USAGE = b"usage: gate latitude longitude azimuth range (hrap i j | radolan x y side) columns rows\n"
 
 # An optional sign and 1 to 18 digits.
@@ -77,7 +77,8 @@ def ledger_rows(scan):
         ray, gate = divmod(number, scan.gates)
         azimuth, distance = scan.azimuths[ray], rules.centre(scan, gate)
         placed = placement.place(scan.latitude, scan.longitude, scan.grid, azimuth, distance)
-        yield ray, gate, azimuth, distance, value, quality, placed.x, placed.y, *place_words(scan.grid, placed.cell)
+        words = place_words(scan.grid, placed.cell)
+        yield ray, gate, azimuth, distance, value, quality, placed.x, placed.y, *words, placed.mark
 
 
 def place_words(grid, cell):
@@ -101,8 +102,8 @@ def gate_text(words):
     if placed.refusal != 0:
         return refused(placed.refusal)
     if placed.cell == OUTSIDE:
-        return lines([("outside", placed.x, placed.y)])
-    return lines([("inside", placed.x, placed.y, *place_words(grid, placed.cell), placed.cell)])
+        return lines([("outside", placed.x, placed.y, placed.mark)])
+    return lines([("inside", placed.x, placed.y, *place_words(grid, placed.cell), placed.cell, placed.mark)])
 
 
 def gate_of(words):

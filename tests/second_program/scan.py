@@ -1,13 +1,13 @@
-"""Document 01's whole scan: the refusals, the ledger, the sums and the published cells.
+"""Document 01's whole scan: the refusals, the ledger, the sums and the published cells; T-02's marks.
 
-It is written from document 01 alone and shares nothing with the library.
+It is written from document 01 and T-02 alone and shares nothing with the library.
 The position follows the same rule as that of one gate in placement.py. Here it is spelled out in whole numbers, so that what
 the site decides is worked once a scan, what the azimuth decides once a ray, and what the range decides once a gate number.
 """
 from typing import Any, NamedTuple, Sequence
 
 from second_program import placement
-from second_program.placement import FLOORED, OUTSIDE, Grid
+from second_program.placement import FLOORED, NEAR, OUTSIDE, Grid
 
 NO_ECHO = 65_534  # measured, counts as 0
 NOT_MEASURED = 65_535
@@ -32,6 +32,7 @@ class Lent(NamedTuple):
     """Something for each of the lists that are lent to be written: its length, or what it holds."""
 
     ledger: Any
+    marks: Any
     counts: Any
     quality_sums: Any
     value_sums: Any
@@ -52,8 +53,8 @@ def centre(scan, gate):
 
 def lent_lengths(scan):
     """The exact lengths of the lists that are lent to be written."""
-    cells = scan.grid.columns * scan.grid.rows
-    return Lent(scan.rays * scan.gates, cells, cells, cells, cells, cells)
+    gates, cells = scan.rays * scan.gates, scan.grid.columns * scan.grid.rows
+    return Lent(gates, gates, cells, cells, cells, cells, cells)
 
 
 # Refusals.
@@ -95,18 +96,17 @@ def refusal(scan, lengths):
     return min(wrong_numbers(scan, lengths), default=0)
 
 
-# Ledger and cells.
+# Ledger, marks and cells.
 
 
-def ledger(scan):
-    grid, sphere = scan.grid, scan.grid.sphere
+def positions(scan):
+    """X and Y of each gate."""
+    sphere = scan.grid.sphere
     q, k = FLOORED.q, sphere.k
     sp, cp = FLOORED.sine(scan.latitude), FLOORED.cosine(scan.latitude)
     sl, cl = FLOORED.sine(scan.longitude - sphere.meridian), FLOORED.cosine(scan.longitude - sphere.meridian)
-    corner_x, corner_y = grid.corner
-    side, columns, rows = grid.side, grid.columns, grid.rows
     arcs = [placement.arc(centre(scan, gate), sphere.radius, FLOORED) for gate in range(scan.gates)]
-    entries = []
+    places = []
     for azimuth in scan.azimuths:
         sa, ca = FLOORED.sine(azimuth), FLOORED.cosine(azimuth)
         for sd, cd in arcs:
@@ -119,11 +119,33 @@ def ledger(scan):
             v = (m * cl - e * sl) // q
             x = k * u // (q + n)
             y = -k * v // (q + n)
-            column = (x - corner_x) // side
-            row = (y - corner_y) // side
-            inside = 0 <= column < columns and 0 <= row < rows
-            entries.append(row * columns + column if inside else OUTSIDE)
+            places.append((x, y))
+    return places
+
+
+def ledger(grid, places):
+    """The entry of each position."""
+    corner_x, corner_y = grid.corner
+    side, columns, rows = grid.side, grid.columns, grid.rows
+    entries = []
+    for x, y in places:
+        column = (x - corner_x) // side
+        row = (y - corner_y) // side
+        inside = 0 <= column < columns and 0 <= row < rows
+        entries.append(row * columns + column if inside else OUTSIDE)
     return entries
+
+
+def marks(grid, places):
+    """The mark of each position."""
+    corner_x, corner_y = grid.corner
+    side, last = grid.side, grid.side - NEAR
+    found = []
+    for x, y in places:
+        # % is never negative.
+        east, north = (x - corner_x) % side, (y - corner_y) % side
+        found.append(int(east < NEAR or east >= last or north < NEAR or north >= last))
+    return found
 
 
 def tally(scan, entries):
@@ -153,6 +175,7 @@ def remap(scan, lengths):
     number = refusal(scan, lengths)
     if number != 0:
         return Remapped(number, None)
-    entries = ledger(scan)
+    places = positions(scan)
+    entries = ledger(scan.grid, places)
     sums = tally(scan, entries)
-    return Remapped(0, Lent(entries, *sums, *publish(scan.by_quality, *sums)))
+    return Remapped(0, Lent(entries, marks(scan.grid, places), *sums, *publish(scan.by_quality, *sums)))

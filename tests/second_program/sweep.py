@@ -1,6 +1,6 @@
-"""T-01's sweep, a scan that is fed ray by ray: opening, taking rays and closing.
+"""T-01's sweep, a scan that is fed ray by ray: opening, taking rays and closing; with T-02's marks.
 
-It is written from T-01 and document 01 alone and shares nothing with the library.
+It is written from T-01, T-02 and document 01 alone and shares nothing with the library.
 The state is handed over and handed back by value. Each operation answers with the new state and the lists that it has
 written, or with the refusal number.
 """
@@ -87,32 +87,39 @@ def open_sweep(scan, lengths):
     return Sweep(scan, 0, False), Sums([0] * cells, [0] * cells, [0] * cells)
 
 
-def take(sweep, rays, ledger, sums):
-    """The new state, the ledger and the sums, once these rays are taken: an object with azimuths, values and qualities."""
+def take(sweep, rays, ledger, marks, sums):
+    """The new state, ledger, marks and sums, once these rays are taken: an object with azimuths, values and qualities."""
     if sweep.closed:
         return 19
     if sweep.taken + len(rays.azimuths) > sweep.scan.rays:
         return 17
     group = sweep.scan._replace(azimuths=rays.azimuths, values=rays.values, qualities=rays.qualities)
-    wrong = rules.wrong_numbers_where(group, group_exact(group, ledger, sums))
+    wrong = rules.wrong_numbers_where(group, group_exact(group, ledger, marks, sums))
     if wrong:
         return min(wrong)
-    entries = rules.ledger(group)
+    places = rules.positions(group)
+    entries = rules.ledger(group.grid, places)
     grown = Sums(*map(added, sums, rules.tally(group, entries)))
     if any(total > widest for totals, widest in zip(grown, WIDEST) for total in totals):
         return 31
     start = sweep.taken * group.gates
-    ledger = [*ledger[:start], *entries, *ledger[start + len(entries) :]]
-    return sweep._replace(taken=sweep.taken + len(rays.azimuths)), ledger, grown
+    ledger = written_from(start, ledger, entries)
+    marks = written_from(start, marks, rules.marks(group.grid, places))
+    return sweep._replace(taken=sweep.taken + len(rays.azimuths)), ledger, marks, grown
 
 
-def group_exact(group, ledger, sums):
-    """Whether there is a ray and each list has its length; the ledger is that of all rays announced."""
+def written_from(start, held, numbers):
+    """What a list holds once these numbers are written from this place on."""
+    return [*held[:start], *numbers, *held[start + len(numbers) :]]
+
+
+def group_exact(group, ledger, marks, sums):
+    """Whether there is a ray and each list has its length; ledger and marks are those of all rays announced."""
     rays = len(group.azimuths)
     return (
         rays >= 1
         and len(group.values) == len(group.qualities) == rays * group.gates
-        and len(ledger) == group.rays * group.gates
+        and len(ledger) == len(marks) == group.rays * group.gates
         and all(len(held) == cells_of(group) for held in sums)
     )
 

@@ -1,4 +1,4 @@
-//! Reads a scan record from standard input and prints its grid, as the program sheet does, then its ledger.
+//! Reads a scan record from standard input and prints its grid, as the program sheet does, then its ledger with the marks.
 
 use std::io::{self, Read, Write};
 use std::process::ExitCode;
@@ -31,12 +31,12 @@ fn print_grid(out: &mut impl Write, scan: &ScanRead, remapped: &Remapped) -> io:
 fn print_ledger(out: &mut impl Write, scan: &ScanRead, remapped: &Remapped) -> io::Result<()> {
     let gates = scan.head.gates as usize;
     writeln!(out, "ledger")?;
-    for (k, &cell) in remapped.ledger.iter().enumerate() {
+    for (k, (&cell, mark)) in remapped.ledger.iter().zip(&remapped.marks).enumerate() {
         let (ray, gate) = (k / gates, k % gates);
         if cell == OUTSIDE {
-            writeln!(out, "{ray} {gate} outside")?;
+            writeln!(out, "{ray} {gate} outside {mark}")?;
         } else {
-            writeln!(out, "{ray} {gate} {cell}")?;
+            writeln!(out, "{ray} {gate} {cell} {mark}")?;
         }
     }
     Ok(())

@@ -3,7 +3,7 @@
 use std::io::{self, Read, Write};
 use std::process::ExitCode;
 
-use uldrevin::{read_record, GateLists, Refusal, ScanRead, SumLists, Sweep};
+use uldrevin::{read_record, EntryLists, GateLists, Refusal, ScanRead, SumLists, Sweep};
 
 struct Cells {
     means: Vec<u16>,
@@ -12,11 +12,16 @@ struct Cells {
 }
 
 fn swept(scan: &ScanRead) -> Result<Cells, Refusal> {
-    let (gates, cells) = (scan.head.gates as usize, scan.head.all_cells());
-    let mut ledger = vec![0; scan.head.all_gates()];
+    let (gates, all_gates) = (scan.head.gates as usize, scan.head.all_gates());
+    let cells = scan.head.all_cells();
+    let (mut ledger, mut marks) = (vec![0; all_gates], vec![0; all_gates]);
     let (mut counts, mut quality_sums) = (vec![0; cells], vec![0; cells]);
     let (mut value_sums, mut means, mut qualities) =
         (vec![0; cells], vec![0; cells], vec![0; cells]);
+    let mut entries = EntryLists {
+        ledger: &mut ledger,
+        marks: &mut marks,
+    };
     let mut sums = SumLists {
         counts: &mut counts,
         quality_sums: &mut quality_sums,
@@ -31,7 +36,7 @@ fn swept(scan: &ScanRead) -> Result<Cells, Refusal> {
             values,
             qualities,
         };
-        sweep = sweep.take(ray, &mut ledger, &mut sums)?;
+        sweep = sweep.take(ray, &mut entries, &mut sums)?;
     }
     sweep.close(&sums, &mut means, &mut qualities)?;
 

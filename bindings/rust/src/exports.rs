@@ -6,11 +6,11 @@
 //!
 //! let site = SiteNumbers { latitude: 600_000, longitude: -1_050_000 };
 //! let grid = GridNumbers { kind: KIND_HRAP, x: 400, y: 932, side: 0, columns: 2, rows: i64::MAX };
-//! let (mut cell, mut x, mut y) = (7, 8, 9);
+//! let (mut cell, mut x, mut y, mut mark) = (7, 8, 9, 10);
 //! // Each pointer is to a struct or a number of its own.
-//! let refusal = unsafe { uldrevin_place(&site, &grid, 0, 0, &mut cell, &mut x, &mut y) };
+//! let refusal = unsafe { uldrevin_place(&site, &grid, 0, 0, &mut cell, &mut x, &mut y, &mut mark) };
 //! assert_eq!(refusal, 5);
-//! assert_eq!((cell, x, y), (7, 8, 9));
+//! assert_eq!((cell, x, y, mark), (7, 8, 9, 10));
 //! ```
 //!
 //! # Safety
@@ -84,6 +84,7 @@ extern "C" {
         cell: *mut u32,
         x: *mut i64,
         y: *mut i64,
+        mark: *mut u8,
     ) -> u32;
 
     pub fn uldrevin_remap(
@@ -96,6 +97,8 @@ extern "C" {
         qualities_length: usize,
         ledger: *mut u32,
         ledger_length: usize,
+        marks: *mut u8,
+        marks_length: usize,
         counts: *mut u32,
         counts_length: usize,
         quality_sums: *mut u32,
@@ -129,6 +132,8 @@ extern "C" {
         qualities_length: usize,
         ledger: *mut u32,
         ledger_length: usize,
+        marks: *mut u8,
+        marks_length: usize,
         counts: *mut u32,
         counts_length: usize,
         quality_sums: *mut u32,

@@ -3,7 +3,7 @@
 //! Angles are ten-thousandths of a degree, lengths are centimetres. No argument need be checked first: every call gives its result or
 //! a [`Refusal`] with its number, and a refusal leaves every lent list as it came in. [`exports`] has the functions as C has them.
 //!
-//! Two gates of one ray, weighted by quality, on a grid of two cells:
+//! Two gates of one ray, weighted by quality, on a grid of two cells. They lie on the line between the two, and so have the mark 1:
 //!
 //! ```
 //! use uldrevin::{remap, GateLists, Grid, HrapGrid, ScanHead, Site, Weighting};
@@ -20,6 +20,7 @@
 //! let scan = GateLists { azimuths: &[0], values: &[1, 7], qualities: &[90, 10] };
 //! let remapped = remap(head, scan)?;
 //! assert_eq!(remapped.ledger, [1, 1]);
+//! assert_eq!(remapped.marks, [1, 1]);
 //! assert_eq!(remapped.counts, [0, 2]);
 //! assert_eq!(remapped.means, [uldrevin::NO_MEAN, 1]);
 //! assert_eq!(remapped.cell_qualities, [0, 50]);
@@ -43,7 +44,7 @@ pub use record::{
 };
 pub use refusal::Refusal;
 pub use scan::{remap, remap_into, CellLists, GateLists, Remapped, ScanHead, Weighting};
-pub use sweep::{SumLists, Sweep};
+pub use sweep::{EntryLists, SumLists, Sweep};
 
 /// The ledger entry of a gate outside the grid.
 pub const OUTSIDE: u32 = 4_294_967_295;

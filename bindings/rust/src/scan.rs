@@ -1,4 +1,4 @@
-//! A whole scan: its gates in, the ledger, the sums and the published cells out.
+//! A whole scan: its gates in, the ledger, the marks, the sums and the published cells out.
 
 use crate::refusal::done;
 use crate::{exports, Grid, Refusal, Site};
@@ -44,10 +44,11 @@ pub struct GateLists<'a> {
     pub qualities: &'a [u8],
 }
 
-/// The lists that a scan is remapped into: a ledger entry a gate; the rest a number a cell.
+/// The lists that a scan is remapped into: a ledger entry and a mark, 1 or 0, a gate; the rest a number a cell.
 #[derive(Debug)]
 pub struct CellLists<'a> {
     pub ledger: &'a mut [u32],
+    pub marks: &'a mut [u8],
     pub counts: &'a mut [u32],
     pub quality_sums: &'a mut [u32],
     pub value_sums: &'a mut [u64],
@@ -55,10 +56,11 @@ pub struct CellLists<'a> {
     pub cell_qualities: &'a mut [u8],
 }
 
-/// A remapped scan.
+/// A remapped scan, in the lists of [`CellLists`].
 #[derive(Clone, Debug, Default, PartialEq, Eq)]
 pub struct Remapped {
     pub ledger: Vec<u32>,
+    pub marks: Vec<u8>,
     pub counts: Vec<u32>,
     pub quality_sums: Vec<u32>,
     pub value_sums: Vec<u64>,
@@ -70,6 +72,7 @@ impl Remapped {
     fn sized(gates: usize, cells: usize) -> Remapped {
         Remapped {
             ledger: vec![0; gates],
+            marks: vec![0; gates],
             counts: vec![0; cells],
             quality_sums: vec![0; cells],
             value_sums: vec![0; cells],
@@ -78,10 +81,11 @@ impl Remapped {
         }
     }
 
-    /// The six lists, lent.
+    /// The lists, lent.
     pub fn lists(&mut self) -> CellLists<'_> {
         CellLists {
             ledger: &mut self.ledger,
+            marks: &mut self.marks,
             counts: &mut self.counts,
             quality_sums: &mut self.quality_sums,
             value_sums: &mut self.value_sums,
@@ -118,6 +122,8 @@ pub fn remap_into(head: ScanHead, scan: GateLists, lists: CellLists) -> Result<(
             scan.qualities.len(),
             lists.ledger.as_mut_ptr(),
             lists.ledger.len(),
+            lists.marks.as_mut_ptr(),
+            lists.marks.len(),
             lists.counts.as_mut_ptr(),
             lists.counts.len(),
             lists.quality_sums.as_mut_ptr(),

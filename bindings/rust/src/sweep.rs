@@ -5,6 +5,13 @@ use crate::numbers::sweep_of;
 use crate::refusal::done;
 use crate::{GateLists, Refusal, ScanHead};
 
+/// The lists that a sweep writes for its gates: a ledger entry and a mark, 1 or 0, a gate of all rays announced.
+#[derive(Debug)]
+pub struct EntryLists<'a> {
+    pub ledger: &'a mut [u32],
+    pub marks: &'a mut [u8],
+}
+
 /// The sums that a sweep adds its gates to, a number a cell each.
 #[derive(Debug)]
 pub struct SumLists<'a> {
@@ -16,13 +23,14 @@ pub struct SumLists<'a> {
 /// A scan in the making. Each method takes the state and gives the new one; after a refusal the caller goes on with the old one.
 ///
 /// The lists are the caller's, and as long as those of the whole scan from the start. While a caller hands on the latest state and
-/// untouched lists, the ledger of the rays taken, the sums, and after closing the cells, are those that [`remap`](crate::remap) gives for
-/// the whole scan of these rays, however they were divided. The state is plain numbers, which are tested again at each call.
+/// untouched lists, the ledger and the marks of the rays taken, the sums, and after closing the cells, are those that
+/// [`remap`](crate::remap) gives for the whole scan of these rays, however they were divided. The state is plain numbers, which are tested
+/// again at each call.
 ///
 /// Two rays on a grid of two cells. The second is refused, and taken once it is mended:
 ///
 /// ```
-/// use uldrevin::{GateLists, Grid, HrapGrid, ScanHead, Site, SumLists, Sweep, Weighting};
+/// use uldrevin::{EntryLists, GateLists, Grid, HrapGrid, ScanHead, Site, SumLists, Sweep, Weighting};
 ///
 /// let head = ScanHead {
 ///     site: Site { latitude: 600_000, longitude: -1_050_000 },
@@ -34,28 +42,30 @@ pub struct SumLists<'a> {
 ///     weighting: Weighting::ByQuality,
 /// };
 /// let mut sums = SumLists { counts: &mut [0; 2], quality_sums: &mut [0; 2], value_sums: &mut [0; 2] };
-/// let (mut ledger, mut means, mut cell_qualities) = ([0; 4], [0; 2], [0; 2]);
+/// let mut entries = EntryLists { ledger: &mut [0; 4], marks: &mut [0; 4] };
+/// let (mut means, mut cell_qualities) = ([0; 2], [0; 2]);
 ///
 /// let mut sweep = Sweep::open(head, &mut sums)?;
 /// let ray = GateLists { azimuths: &[0], values: &[1, 7], qualities: &[90, 10] };
-/// sweep = sweep.take(ray, &mut ledger, &mut sums)?;
+/// sweep = sweep.take(ray, &mut entries, &mut sums)?;
 ///
 /// let bad = GateLists { azimuths: &[900_000], values: &[3, 5], qualities: &[101, 40] };
-/// let refusal = sweep.take(bad, &mut ledger, &mut sums).unwrap_err();
+/// let refusal = sweep.take(bad, &mut entries, &mut sums).unwrap_err();
 /// assert_eq!(refusal.to_string(), "refusal 8: a quality is over 100");
 /// assert_eq!((sweep.taken, &*sums.counts), (1, &[0, 2][..]));
 ///
 /// assert_eq!(sweep.close(&sums, &mut means, &mut cell_qualities).unwrap_err().number, 18); // a ray is missing
 ///
 /// let mended = GateLists { qualities: &[60, 40], ..bad };
-/// sweep = sweep.take(mended, &mut ledger, &mut sums)?;
+/// sweep = sweep.take(mended, &mut entries, &mut sums)?;
 /// sweep = sweep.close(&sums, &mut means, &mut cell_qualities)?;
-/// assert_eq!(ledger, [1, 1, 1, 1]);
+/// assert_eq!(entries.ledger, [1, 1, 1, 1]);
+/// assert_eq!(entries.marks, [1, 1, 1, 0]); // all but the last lie on the line between the two cells
 /// assert_eq!((means[1], cell_qualities[1]), (2, 50)); // (1 x 90 + 7 x 10 + 3 x 60 + 5 x 40) / 200
 ///
-/// assert_eq!(sweep.take(ray, &mut ledger, &mut sums).unwrap_err().number, 19); // it is closed
+/// assert_eq!(sweep.take(ray, &mut entries, &mut sums).unwrap_err().number, 19); // it is closed
 /// let altered = Sweep { closed: false, ..sweep };
-/// assert_eq!(altered.take(ray, &mut ledger, &mut sums).unwrap_err().number, 17); // both rays are taken
+/// assert_eq!(altered.take(ray, &mut entries, &mut sums).unwrap_err().number, 17); // both rays are taken
 /// # Ok::<(), uldrevin::Refusal>(())
 /// ```
 #[derive(Clone, Copy, Debug, PartialEq, Eq)]
@@ -87,12 +97,12 @@ impl Sweep {
         Ok(sweep_of(numbers))
     }
 
-    /// Takes one ray or several, which follow those taken before. Their ledger entries are written, and the sums grow by their gates.
-    /// The ledger is that of all rays announced. Refusals, in this order: 19, 17, 1 to 5, 6 also for no rays, 7, 8, 31.
+    /// Takes one ray or several, which follow those taken before. Their ledger entries and marks are written, those of other rays stay,
+    /// and the sums grow by their gates. Refusals, in this order: 19, 17, 1 to 5, 6 also for no rays, 7, 8, 31.
     pub fn take(
         self,
         rays: GateLists,
-        ledger: &mut [u32],
+        entries: &mut EntryLists,
         sums: &mut SumLists,
     ) -> Result<Sweep, Refusal> {
         let mut numbers = self.into();
@@ -106,8 +116,10 @@ impl Sweep {
                 rays.values.len(),
                 rays.qualities.as_ptr(),
                 rays.qualities.len(),
-                ledger.as_mut_ptr(),
-                ledger.len(),
+                entries.ledger.as_mut_ptr(),
+                entries.ledger.len(),
+                entries.marks.as_mut_ptr(),
+                entries.marks.len(),
                 sums.counts.as_mut_ptr(),
                 sums.counts.len(),
                 sums.quality_sums.as_mut_ptr(),

@@ -13,6 +13,7 @@ use Rattle.arithmetic.proofs.Test.{and-true}
 use Rattle.refusal.proofs.RangeBounds.{range-bounds}
 use Rattle.refusal.proofs.Then.{then-none}
 use Rattle.limits.specs.Accepted.{azimuthAccepted, siteAccepted, gridAccepted}
+use Rattle.placement.specs.declared.gate.Placement.{Placement}
 use Rattle.placement.specs.declared.survey.Survey.{Survey}
 use Rattle.placement.specs.Survey.{Surveyed, surveyOf}
 use Rattle.placement.proofs.SurveyLimits.{surveyed-of}
@@ -23,15 +24,16 @@ use Rattle.scan.specs.Rays.{regularRays}
 use Rattle.scan.specs.Scan.{gatesOf, cellsOf}
 use Rattle.scan.specs.ScanRefusal.{centresAccepted, qualityAccepted}
 use Rattle.scan.proofs.AcceptedScan.{accepted-numbers}
-use Rattle.scan_ledger.specs.LedgerRoom.{RaysSpan, surveyedLedger}
-use Rattle.scan_ledger.proofs.AcceptedLedger.{centres-most, accepted-ledger}
+use Rattle.scan_ledger.specs.LedgerRoom.{RaysSpan, surveyedGates}
+use Rattle.scan_ledger.specs.ScanLedger.{gatesTold}
+use Rattle.scan_ledger.proofs.AcceptedLedger.{centres-most, accepted-gates}
 use Rattle.ray_sums.specs.RaySums.{AddsAll}
 use Rattle.group_sums.specs.GroupRoom.{GroupAddable}
 use Rattle.sweep_checks.specs.SweepLengths.{sumsAccepted, groupAccepted}
 use Rattle.sweep_checks.specs.SweepNumbers.{takeNumber}
 use Rattle.sweep_checks.proofs.PassedState.{passed-state}
 use Rattle.accepted_take.specs.RayGroup.{RayGroup, RayLists}
-use Rattle.accepted_take.specs.TakenLists.{groupLengths, sumLengths, groupLedger, takenLists, takeChecks, TakesGroup}
+use Rattle.accepted_take.specs.TakenLists.{groupLengths, sumLengths, groupLedger, groupMarks, takenLists, takeChecks, TakesGroup}
 
 -- ---- the lengths
 
@@ -62,6 +64,7 @@ pub record AcceptedGroup (head : ScanHead) (closed : Bool) (taken : ℕ) (group 
   pub values-length : length (group .values) ≡ length (group .azimuths) * head .gates
   pub qualities-length : length (group .qualities) ≡ length (group .azimuths) * head .gates
   pub ledger-length : length (lists .ledger) ≡ gatesOf head
+  pub marks-length : length (lists .marks) ≡ gatesOf head
   pub sums : AcceptedSums head (lists .sums)
   pub azimuths-good : allOf azimuthAccepted (group .azimuths) ≡ true
   pub qualities-good : allOf qualityAccepted (group .qualities) ≡ true
@@ -73,10 +76,11 @@ accepted-group head closed taken group lists e =
     let state = passed-state head closed taken (length (group .azimuths)) (both .0) in
     let numbers = accepted-numbers head _ _ _ (both .1) in
     let gates = range-bounds 1 1000 (head .gates) (numbers .gates-accepted) in
-    let lengths = and-true (groupAccepted head (groupLengths group (lists .ledger))) _ (numbers .lengths-accepted) in
+    let lengths = and-true (groupAccepted head (groupLengths group lists)) _ (numbers .lengths-accepted) in
     let first = and-true _ _ (lengths .0) in
     let second = and-true _ _ (first .1) in
     let third = and-true _ _ (second .1) in
+    let fourth = and-true _ _ (third .1) in
     record {
       open-yet = state .open-yet;
       rays-most = state .rays-most;
@@ -89,7 +93,8 @@ accepted-group head closed taken group lists e =
       some-ray = eqb-false (length (group .azimuths)) 0 (not-true _ (first .0));
       values-length = eqb-true _ _ (second .0);
       qualities-length = eqb-true _ _ (third .0);
-      ledger-length = eqb-true _ _ (third .1);
+      ledger-length = eqb-true _ _ (fourth .0);
+      marks-length = eqb-true _ _ (fourth .1);
       sums = accepted-sums head (lists .sums) (lengths .1);
       azimuths-good = numbers .azimuths-accepted;
       qualities-good = numbers .qualities-accepted;
@@ -113,36 +118,39 @@ module _ {head : ScanHead} {closed : Bool} {taken : ℕ} {group : RayGroup} {lis
         ranges = λ g h. centres-most (head .gates) (head .first) (head .spacing) g (good .centres) (omega arith);
       }
 
-  -- the rays stand in the ledger behind those that were taken before
-  pub rays-span : {ledger : List ℕ} → length ledger ≡ length (lists .ledger) → RaysSpan (head .gates) (head .first) (head .spacing) (taken * head .gates) (group .azimuths) ledger
+  behind : taken * head .gates + length (group .azimuths) * head .gates ≤ gatesOf head
   unfolding gatesOf
-  rays-span same = record {
+  behind = omega (arith, add-mul taken (length (group .azimuths)) (head .gates), mul-le-mul-right (head .gates) (good .rays-most))
+
+  -- the rays stand in ledger and marks behind those that were taken before
+  pub rays-span : RaysSpan (head .gates) (head .first) (head .spacing) (taken * head .gates) (group .azimuths) (lists .ledger) (lists .marks)
+  rays-span = record {
     gates-least = good .gates-least;
     gates-most = good .gates-most;
-    end-most = omega (arith, same, good .ledger-length, add-mul taken (length (group .azimuths)) (head .gates), mul-le-mul-right (head .gates) (good .rays-most));
+    end-most = omega (arith, behind, good .ledger-length);
+    marks-most = omega (arith, behind, good .marks-length);
     ranges = λ g h. centres-most (head .gates) (head .first) (head .spacing) g (good .centres) h;
   }
 
-  pub ledger-is : (survey : Survey) (gates : ℕ) → survey ≡ surveyOf (head .site) (head .grid) → gates ≡ head .gates → surveyedLedger survey (head .first) (head .spacing) (regularRays gates (group .azimuths)) ≡ groupLedger head group
-  unfolding groupLedger
-  ledger-is survey gates s g = rw (s, g) (accepted-ledger head (good .centres) (good .site) (good .grid) (group .azimuths) (good .azimuths-good))
+  pub told-is : (told : Placement → ℕ) (survey : Survey) (gates : ℕ) → survey ≡ surveyOf (head .site) (head .grid) → gates ≡ head .gates → surveyedGates told survey (head .first) (head .spacing) (regularRays gates (group .azimuths)) ≡ gatesTold told head (regularRays (head .gates) (group .azimuths))
+  told-is told survey gates s g = rw (s, g) (accepted-gates head (good .centres) (good .site) (good .grid) told (group .azimuths) (good .azimuths-good))
 
   -- ---- the answer
 
   module _ {written : List ℕ} {sums : Sums} {added : Bool} (is : written ≡ groupLedger head group) (adds : AddsAll (head .weighting) written (group .values) (group .qualities) (record { entry = lists .sums; exit = sums }) added) where
-    pub group-taken : {ledger : List ℕ} → added ≡ true → ledger ≡ sets (lists .ledger) (taken * head .gates) (groupLedger head group) → TakesGroup head taken group (record { entry = lists; exit = record { ledger = ledger; sums = sums } }) true
+    pub group-taken : {ledger marks : List ℕ} → added ≡ true → ledger ≡ sets (lists .ledger) (taken * head .gates) (groupLedger head group) → marks ≡ sets (lists .marks) (taken * head .gates) (groupMarks head group) → TakesGroup head taken group (record { entry = lists; exit = record { ledger = ledger; marks = marks; sums = sums } }) true
     unfolding takenLists
-    group-taken was e =
+    group-taken was e m =
         let there = rw is at adds in
         let all : sums ≡ addedSums (head .weighting) (groupLedger head group) (group .values) (group .qualities) (lists .sums) = rw was at (there .the-sums) in
         record {
           the-answer = sym was ∙ there .the-answer;
-          the-lists = λ i. record { ledger = e i; sums = all i };
+          the-lists = λ i. record { ledger = e i; marks = m i; sums = all i };
         }
 
-    pub group-left : added ≡ false → TakesGroup head taken group (record { entry = lists; exit = record { ledger = lists .ledger; sums = sums } }) false
+    pub group-left : added ≡ false → TakesGroup head taken group (record { entry = lists; exit = record { ledger = lists .ledger; marks = lists .marks; sums = sums } }) false
     unfolding takenLists
     group-left was =
         let there = rw is at adds in
         let same : sums ≡ lists .sums = rw was at (there .the-sums) in
-        record { the-answer = sym was ∙ there .the-answer; the-lists = λ i. record { ledger = lists .ledger; sums = same i } }
+        record { the-answer = sym was ∙ there .the-answer; the-lists = λ i. record { ledger = lists .ledger; marks = lists .marks; sums = same i } }

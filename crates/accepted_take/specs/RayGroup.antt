@@ -14,16 +14,17 @@ pub record RayGroup : Type 0 where
 abbrev pub groupHeld : Slice → Slice → Slice → RayGroup
 groupHeld azimuths values qualities = record { azimuths = now azimuths; values = now values; qualities = now qualities }
 
--- the ledger of the whole scan, and the sums
+-- the ledger and the marks of the whole scan, and the sums
 pub record RayLists : Type 0 where
   pub ledger : List ℕ
+  pub marks : List ℕ
   pub sums : Sums
 
-abbrev pub rayListsHeld : Slice → Slice → Slice → Slice → RayLists
-rayListsHeld ledger counts qualitySums valueSums = record { ledger = now ledger; sums = sumsHeld counts qualitySums valueSums }
+abbrev pub rayListsHeld : Slice → Slice → Slice → Slice → Slice → RayLists
+rayListsHeld ledger marks counts qualitySums valueSums = record { ledger = now ledger; marks = now marks; sums = sumsHeld counts qualitySums valueSums }
 
-abbrev pub lentRayLists : Lent → Lent → Lent → Lent → Both RayLists RayLists
-lentRayLists ledger counts qualitySums valueSums = record {
-  entry = rayListsHeld (ledger .entry) (counts .entry) (qualitySums .entry) (valueSums .entry);
-  exit = rayListsHeld (ledger .exit) (counts .exit) (qualitySums .exit) (valueSums .exit);
+abbrev pub lentRayLists : Lent → Lent → Lent → Lent → Lent → Both RayLists RayLists
+lentRayLists ledger marks counts qualitySums valueSums = record {
+  entry = rayListsHeld (ledger .entry) (marks .entry) (counts .entry) (qualitySums .entry) (valueSums .entry);
+  exit = rayListsHeld (ledger .exit) (marks .exit) (counts .exit) (qualitySums .exit) (valueSums .exit);
 }

@@ -1,4 +1,4 @@
--- Document 02, T-01: a group's refusal, and what the lists hold once its rays are taken. Assumes nothing.
+-- Document 02, T-01 and T-02: a group's refusal, and what the lists hold once its rays are taken. Assumes nothing.
 use mathlib.Core.Bool.{Bool, cond}
 use mathlib.Core.List.{List, [], _∷_}
 use mathlib.Core.Path.{_≡_}
@@ -15,7 +15,7 @@ use Rattle.tally.specs.Width.{fitWidths}
 use Rattle.scan.specs.declared.head.ScanHead.{ScanHead}
 use Rattle.scan.specs.Rays.{regularRays}
 use Rattle.scan.specs.ScanRefusal.{qualityAccepted}
-use Rattle.scan_ledger.specs.ScanLedger.{ledgerOf}
+use Rattle.scan_ledger.specs.ScanLedger.{ledgerOf, marksOf}
 use Rattle.sweep_checks.specs.declared.lengths.SumLengths.{SumLengths}
 use Rattle.sweep_checks.specs.declared.lengths.GroupLengths.{GroupLengths}
 use Rattle.sweep_checks.specs.SweepNumbers.{takeNumber}
@@ -28,29 +28,34 @@ sumLengths sums = record {
   «value_sums» = length (sums .valueSums);
 }
 
-abbrev pub groupLengths : RayGroup → List ℕ → GroupLengths
-groupLengths group ledger = record {
+abbrev pub groupLengths : RayGroup → RayLists → GroupLengths
+groupLengths group lists = record {
   azimuths = length (group .azimuths);
   values = length (group .values);
   qualities = length (group .qualities);
-  ledger = length ledger;
+  ledger = length (lists .ledger);
+  marks = length (lists .marks);
 }
 
--- the group's own ledger
-unfoldable pub groupLedger : ScanHead → RayGroup → List ℕ
+-- the group's own ledger, and its own marks
+abbrev pub groupLedger : ScanHead → RayGroup → List ℕ
 groupLedger head group = ledgerOf head (regularRays (head .gates) (group .azimuths))
 
--- the ledger's entries of just these rays, behind those that were taken before; the sums with just these gates added
+abbrev pub groupMarks : ScanHead → RayGroup → List ℕ
+groupMarks head group = marksOf head (regularRays (head .gates) (group .azimuths))
+
+-- entries and marks of just these rays, behind those that were taken before; the sums with just these gates added
 unfoldable pub takenLists : ScanHead → ℕ → RayGroup → RayLists → RayLists
 takenLists head taken group lists = record {
   ledger = sets (lists .ledger) (taken * head .gates) (groupLedger head group);
+  marks = sets (lists .marks) (taken * head .gates) (groupMarks head group);
   sums = addedSums (head .weighting) (groupLedger head group) (group .values) (group .qualities) (lists .sums);
 }
 
 -- 19, 17, 1 to 8
 unfoldable pub takeChecks : ScanHead → Bool → ℕ → RayGroup → RayLists → ℕ
 takeChecks head closed taken group lists =
-    takeNumber head closed taken (groupLengths group (lists .ledger)) (sumLengths (lists .sums)) (allOf azimuthAccepted (group .azimuths)) (allOf qualityAccepted (group .qualities))
+    takeNumber head closed taken (groupLengths group lists) (sumLengths (lists .sums)) (allOf azimuthAccepted (group .azimuths)) (allOf qualityAccepted (group .qualities))
 
 -- "last, 31 for a ray by which a count or quality sum would pass 32 bits or a value sum 64"
 unfoldable pub takeRefusal : ScanHead → Bool → ℕ → RayGroup → RayLists → ℕ

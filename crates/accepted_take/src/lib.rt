@@ -1,4 +1,4 @@
-// A group of rays, of accepted numbers and lists: the sums, then the ledger.
+// A group of rays, of accepted numbers and lists: the sums, then ledger and marks.
 use group_sums::add_rays;
 use scan::ScanHead;
 use scan_ledger::scan_ledger;
@@ -7,7 +7,7 @@ ghost use mathlib.Core.Path.{_≡_};
 ghost use Rattle.accepted_take.specs.RayGroup.{groupHeld, rayListsHeld, lentRayLists};
 ghost use Rattle.accepted_take.specs.TakenLists.{takeChecks, TakesGroup};
 
-// The ledger may not be written before the group is known to fit, so each ray's entries are worked out into an array first, and again for the
+// Ledger and marks may not be written before the group is known to fit, so each ray's entries are worked out into an array first, and again for the
 // ledger. Says whether the group fits. For our own crates: they have tested the state, which is not closed, the rays and the lengths of the lists.
 pub fn accepted_take(
     head: ScanHead,
@@ -16,12 +16,13 @@ pub fn accepted_take(
     values: &[u16],
     qualities: &[u8],
     ledger: &mut [u32],
+    marks: &mut [u8],
     counts: &mut [u32],
     quality_sums: &mut [u32],
     value_sums: &mut [u64],
 ) -> bool
-    requires { ⌜ takeChecks head false taken (groupHeld azimuths values qualities) (rayListsHeld ledger counts «quality_sums» «value_sums») ≡ 0 ⌝ }
-    ensures { λ r. ⌜ TakesGroup head taken (groupHeld (azimuths .entry) (values .entry) (qualities .entry)) (lentRayLists ledger counts «quality_sums» «value_sums») r ⌝ }
+    requires { ⌜ takeChecks head false taken (groupHeld azimuths values qualities) (rayListsHeld ledger marks counts «quality_sums» «value_sums») ≡ 0 ⌝ }
+    ensures { λ r. ⌜ TakesGroup head taken (groupHeld (azimuths .entry) (values .entry) (qualities .entry)) (lentRayLists ledger marks counts «quality_sums» «value_sums») r ⌝ }
 {
     let site = head.site;
     let grid = head.grid;
@@ -51,6 +52,7 @@ pub fn accepted_take(
         head.spacing,
         azimuths,
         ledger,
+        marks,
         (taken as usize) * gates,
     );
     true

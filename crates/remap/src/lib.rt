@@ -1,4 +1,4 @@
-// The whole scan: one scan, one site and one grid come in; out come the ledger, the cell sums and the published cells.
+// The whole scan: one scan, one site and one grid come in; out come the ledger, the marks, the cell sums and the published cells.
 use accepted_remap::accepted_remap;
 use scan::Lengths;
 use scan::ScanHead;
@@ -22,6 +22,7 @@ pub fn remap(
     values: &[u16],
     qualities: &[u8],
     ledger: &mut [u32],
+    marks: &mut [u8],
     counts: &mut [u32],
     quality_sums: &mut [u32],
     value_sums: &mut [u64],
@@ -30,13 +31,14 @@ pub fn remap(
 ) -> Remapped
     ensures { λ r. ⌜ Remaps
         (scanHeld head (azimuths .entry) (values .entry) (qualities .entry))
-        (lentLists ledger counts «quality_sums» «value_sums» means «cell_qualities») r ⌝ }
+        (lentLists ledger marks counts «quality_sums» «value_sums» means «cell_qualities») r ⌝ }
 {
     let given = Lengths {
         azimuths: azimuths.len(),
         values: values.len(),
         qualities: qualities.len(),
         ledger: ledger.len(),
+        marks: marks.len(),
         counts: counts.len(),
         quality_sums: quality_sums.len(),
         value_sums: value_sums.len(),
@@ -59,6 +61,7 @@ pub fn remap(
         values,
         qualities,
         ledger,
+        marks,
         counts,
         quality_sums,
         value_sums,

@@ -1,15 +1,19 @@
 -- Document 01, "The scan" and "Ledger and cells": gates are numbered ray by ray, gate g of a ray has its centre at first + g x spacing, and
--- the ledger has the entry of each. Assumes nothing.
+-- the ledger has the entry of each; document 02, T-02: the marks have its mark. Assumes nothing.
 use mathlib.Core.Path.{_≡_}
 use Prim.Native.Nat.{ℕ, _+_, _*_, _<_}
 use lib.ListN.{length, getD}
-use Rattle.placement.specs.Gate.{placementOf, entryOf}
-use Rattle.scan_ledger.specs.ScanLedger.{ledgerOf}
+use Rattle.placement.specs.Gate.{placementOf, entryOf, markOf}
+use Rattle.scan_ledger.specs.ScanLedger.{gatesTold}
 use Rattle.accepted_remap.specs.FilledLists.{filledLists}
 use Rattle.scan.specs.Scan.{Scan, raysOf}
 use Rattle.scan.proofs.RayLaws.{gate-at}
 
 -- gate g of ray i
 pub ledger-entry : (scan : Scan) (i g : ℕ) → i < length (scan .azimuths) → g < scan .head .gates → getD (filledLists scan .ledger) (i * scan .head .gates + g) 0 ≡ entryOf (placementOf (scan .head .site) (scan .head .grid) (getD (scan .azimuths) i 0) (scan .head .first + g * scan .head .spacing))
-unfolding filledLists ledgerOf raysOf
+unfolding filledLists gatesTold raysOf
 ledger-entry scan i g h k = gate-at _ _ _ (scan .head .gates) (scan .azimuths) i g h k
+
+pub gate-mark : (scan : Scan) (i g : ℕ) → i < length (scan .azimuths) → g < scan .head .gates → getD (filledLists scan .marks) (i * scan .head .gates + g) 0 ≡ markOf (placementOf (scan .head .site) (scan .head .grid) (getD (scan .azimuths) i 0) (scan .head .first + g * scan .head .spacing))
+unfolding filledLists gatesTold raysOf
+gate-mark scan i g h k = gate-at _ _ _ (scan .head .gates) (scan .azimuths) i g h k

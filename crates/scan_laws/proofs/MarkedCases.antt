@@ -27,7 +27,7 @@ use Rattle.scan_laws.specs.MarkedCases.{exampleHead, example, exampleSca
 use Rattle.publish.specs.Publish.{meanOf, divisorOf, qualityOf}
 use Rattle.scan.specs.Rays.{rayGates, allGates, regularRays}
 use Rattle.scan.specs.Scan.{raysOf, cellsOf}
-use Rattle.scan_ledger.specs.ScanLedger.{ledgerOf}
+use Rattle.scan_ledger.specs.ScanLedger.{gatesTold, ledgerOf}
 use Rattle.accepted_remap.specs.FilledLists.{filledLists}
 use Rattle.refusal.specs.Answer.{afterwards}
 use Rattle.scan.specs.ScanRefusal.{centresAccepted, qualityAccepted, scanNumber, scanRefusal, refusalFor}
@@ -35,7 +35,7 @@ use Rattle.tally.specs.Tally.{contributes, sumOver, countOf, qualitySumOf, valu
 
 -- both gates lie in cell 1
 example-ledger : (weighting : Weighting) → ledgerOf (example weighting) (regularRays 2 (0 ∷ [])) ≡ 1 ∷ 1 ∷ []
-unfolding ledgerOf regularRays allGates rayGates flatMap table example exampleHead exampleGrid entryOf placementOf unlessRefused gateRefusal firstRefusal rangeAccepted siteAccepted gridAccepted sizeAccepted azimuthAccepted inRange inSignedRange windowOf located inWindow inSpan cellNumber column row indexOf sphereOf hrapSphere positionOf positionBy siteTerms rayTerms arcTerms d d2 d3 d4 d5 sd cd w e n m u v divisor X Y cosineOf sineOf byQuarters inTurn inQuarter _modulo_ quarterSine S F G nearest sineSeries cosineSeries alternating term factorial arc arcUnit _⊕_ opposite
+unfolding gatesTold regularRays allGates rayGates flatMap table example exampleHead exampleGrid entryOf placementOf unlessRefused gateRefusal firstRefusal rangeAccepted siteAccepted gridAccepted sizeAccepted azimuthAccepted inRange inSignedRange windowOf located inWindow inSpan cellNumber column row indexOf sphereOf hrapSphere positionOf positionBy siteTerms rayTerms arcTerms d d2 d3 d4 d5 sd cd w e n m u v divisor X Y cosineOf sineOf byQuarters inTurn inQuarter _modulo_ quarterSine S F G nearest sineSeries cosineSeries alternating term factorial arc arcUnit _⊕_ opposite
 example-ledger weighting = refl
 
 -- ---- the table

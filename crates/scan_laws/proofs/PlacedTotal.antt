@@ -17,11 +17,11 @@ use Rattle.grid.specs.declared.window.Window.{Window}
 use Rattle.projection.specs.declared.position.Position.{Position}
 use Rattle.placement.specs.Gate.{unlessRefused, placementOf, entryOf}
 use Rattle.grid.specs.Window.{windowOf, inSpan, cellNumber}
-use Rattle.placement.specs.Located.{inWindow, located, row, column}
+use Rattle.placement.specs.Located.{inWindow, marked, located, row, column}
 use Rattle.grid.proofs.Cells.{in-span-natural}
 use Rattle.tally.specs.Gates.{isMeasured}
 use Rattle.scan_laws.specs.Placed.{isInside, gatePlacement, gateValue, isPlaced, placedOf}
-use Rattle.scan_ledger.specs.ScanLedger.{ledgerOf}
+use Rattle.scan_ledger.specs.ScanLedger.{gatesTold}
 use Rattle.accepted_remap.specs.FilledLists.{filledLists}
 use Rattle.scan.specs.Scan.{cellsOf, Scan, raysOf}
 use Rattle.tally.specs.Tally.{countOf, talliedSums}
@@ -39,7 +39,7 @@ cell-below columns rows r c h i =
     omega (arith, mul-le-mul-right {m = suc r} {n = rows} columns h, suc-mul r columns, mul-comm rows columns)
 
 module _ (window : Window) (at : Position) (h : window .columns * window .rows ≤ 4294967295) where
-  located-by : (b : Bool) → inWindow window at ≡ b → Told (cond b (Inside (cellNumber (window .columns) (row window at) (column window at)) (at .x) (at .y)) (Outside (at .x) (at .y))) (window .columns * window .rows)
+  located-by : (b : Bool) → inWindow window at ≡ b → Told (cond b (Inside (cellNumber (window .columns) (row window at) (column window at)) (at .x) (at .y) (marked window at)) (Outside (at .x) (at .y) (marked window at))) (window .columns * window .rows)
   unfolding Told inWindow cellNumber entryOf isInside
   located-by true e =
       let both = and-true (inSpan (window .columns) (column window at)) (inSpan (window .rows) (row window at)) e in
@@ -62,7 +62,7 @@ gate-told scan i g h = unless-refused (windowOf (scan .head .grid)) _ h _
 
 module _ (scan : Scan) (azimuths : length (scan .azimuths) ≡ scan .head .rays) (cells : cellsOf (scan .head) ≤ 4294967295) where
   ledger-length : length (filledLists scan .ledger) ≡ scan .head .rays * scan .head .gates
-  unfolding filledLists ledgerOf raysOf
+  unfolding filledLists gatesTold raysOf
   ledger-length =
       gates-length _ _ _ (raysOf scan) ∙ regular-gates (scan .head .gates) (scan .azimuths)
       ∙ ap (λ (n : ℕ). n * scan .head .gates) azimuths

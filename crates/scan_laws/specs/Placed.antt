@@ -10,8 +10,8 @@ use Rattle.tally.specs.Gates.{isMeasured}
 use Rattle.scan.specs.Scan.{Scan}
 
 unfoldable pub isInside : Placement → Bool
-isInside (Inside cell x y) = true
-isInside (Outside x y) = false
+isInside (Inside cell x y mark) = true
+isInside (Outside x y mark) = false
 isInside (Refused number) = false
 
 module _ (scan : Scan) where

@@ -57,18 +57,19 @@ impl Sweep {
         })
     }
 
-    // Takes one ray or several: all of them, or none. The ledger is that of the whole scan.
+    // Takes one ray or several: all of them, or none. Ledger and marks are those of the whole scan.
     pub fn take_rays(
         self,
         azimuths: &[u32],
         values: &[u16],
         qualities: &[u8],
         ledger: &mut [u32],
+        marks: &mut [u8],
         counts: &mut [u32],
         quality_sums: &mut [u32],
         value_sums: &mut [u64],
     ) -> Swept
-        ensures { λ r. ⌜ Takes self (groupHeld (azimuths .entry) (values .entry) (qualities .entry)) (lentRayLists ledger counts «quality_sums» «value_sums») r ⌝ }
+        ensures { λ r. ⌜ Takes self (groupHeld (azimuths .entry) (values .entry) (qualities .entry)) (lentRayLists ledger marks counts «quality_sums» «value_sums») r ⌝ }
     {
         let head = self.head;
         let number = take_refusal(
@@ -80,6 +81,7 @@ impl Sweep {
                 values: values.len(),
                 qualities: qualities.len(),
                 ledger: ledger.len(),
+                marks: marks.len(),
             },
             SumLengths {
                 counts: counts.len(),
@@ -99,6 +101,7 @@ impl Sweep {
             values,
             qualities,
             ledger,
+            marks,
             counts,
             quality_sums,
             value_sums,

@@ -14,12 +14,13 @@ sumsAccepted head given =
     eqb (given .counts) (cellsOf head)
     && (eqb (given .«quality_sums») (cellsOf head) && eqb (given .«value_sums») (cellsOf head))
 
--- not a group of no rays; as many gates as its rays have; the whole ledger, of all rays that were announced
+-- not a group of no rays; as many gates as its rays have; the whole ledger and all marks, of all rays that were announced
 unfoldable pub groupAccepted : ScanHead → GroupLengths → Bool
 groupAccepted head given =
     not (eqb (given .azimuths) 0)
     && (eqb (given .values) (given .azimuths * head .gates)
-    && (eqb (given .qualities) (given .azimuths * head .gates) && eqb (given .ledger) (gatesOf head)))
+    && (eqb (given .qualities) (given .azimuths * head .gates)
+    && (eqb (given .ledger) (gatesOf head) && eqb (given .marks) (gatesOf head))))
 
 -- columns x rows
 unfoldable pub cellsAccepted : ScanHead → CellLengths → Bool

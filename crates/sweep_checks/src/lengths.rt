@@ -12,12 +12,13 @@ pub struct SumLengths {
     pub value_sums: usize,
 }
 
-// Those of a group of rays, and of the ledger.
+// Those of a group of rays, and of ledger and marks.
 pub struct GroupLengths {
     pub azimuths: usize,
     pub values: usize,
     pub qualities: usize,
     pub ledger: usize,
+    pub marks: usize,
 }
 
 pub struct CellLengths {
@@ -39,7 +40,7 @@ pub fn sums_accepted(head: ScanHead, given: SumLengths) -> bool
     given.value_sums == cells
 }
 
-// A ray or more; rays x gates of the group; rays x gates of the whole ledger. No more rays than are announced.
+// A ray or more; rays x gates of the group; rays x gates of the whole ledger and of all marks. No more rays than are announced.
 pub fn group_accepted(head: ScanHead, given: GroupLengths) -> bool
     requires { ⌜ given .azimuths ≤ head .rays ⌝ }
     ensures { λ r. ⌜ r ≡ groupAccepted head given ⌝ }
@@ -54,7 +55,11 @@ pub fn group_accepted(head: ScanHead, given: GroupLengths) -> bool
     if given.qualities != gates {
         return false;
     }
-    given.ledger == gates_of(head)
+    let all = gates_of(head);
+    if given.ledger != all {
+        return false;
+    }
+    given.marks == all
 }
 
 // Columns x rows each.

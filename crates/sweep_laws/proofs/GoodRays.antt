@@ -18,19 +18,24 @@ use Rattle.tally.specs.Tally.{cleared, addedSums}
 use Rattle.tally.specs.Width.{fitWidths}
 use Rattle.tally.proofs.TallySplit.{added-joined}
 use Rattle.tally.proofs.TallyWidth.{GatesMost, from-nothing-fits}
+use Rattle.placement.specs.declared.gate.Placement.{Placement}
+use Rattle.placement.specs.Gate.{entryOf}
 use Rattle.scan.specs.declared.head.ScanHead.{ScanHead}
 use Rattle.scan.specs.Rays.{regularRays}
 use Rattle.scan.specs.ScanRefusal.{qualityAccepted}
-use Rattle.scan_ledger.specs.ScanLedger.{ledgerOf}
+use Rattle.scan_ledger.specs.ScanLedger.{gatesTold}
 use Rattle.accepted_take.specs.RayGroup.{RayGroup, RayLists}
 use Rattle.accepted_take.specs.TakenLists.{groupLedger}
 use Rattle.accepted_take.proofs.AcceptedGroup.{AcceptedGroup}
 use Rattle.sweep_laws.specs.SweepSequence.{Sixteen, joined}
-use Rattle.sweep_laws.proofs.JoinedRays.{all-joined, lengths-joined, ledger-joined, ledger-length}
+use Rattle.sweep_laws.proofs.JoinedRays.{all-joined, lengths-joined, told-joined, told-length}
 
--- the ledger of the accepted rays
+-- what is told of the accepted rays' gates
+abbrev pub toldSoFar : (Placement → ℕ) → ScanHead → RayGroup → List ℕ
+toldSoFar told head rays = gatesTold told head (regularRays (head .gates) (rays .azimuths))
+
 abbrev pub ledgerSoFar : ScanHead → RayGroup → List ℕ
-ledgerSoFar head rays = ledgerOf head (regularRays (head .gates) (rays .azimuths))
+ledgerSoFar head rays = toldSoFar entryOf head rays
 
 -- what is known of the accepted rays
 pub record GoodRays (head : ScanHead) (rays : RayGroup) : Type 0 where
@@ -56,7 +61,7 @@ module _ {head : ScanHead} {rays : RayGroup} (good : GoodRays head rays) where
   rays-fit sums =
       let gates = mul-le-mul (good .rays-most) (good .gates-most) in
       let most : GatesMost (ledgerSoFar head rays) (rays .values) (rays .qualities) = record {
-        gates-most = omega (arith, ledger-length head (head .gates) (rays .azimuths), gates);
+        gates-most = omega (arith, told-length entryOf head (head .gates) (rays .azimuths), gates);
         values-most = values-most;
         qualities-most = qualities-most;
       } in
@@ -76,16 +81,16 @@ module _ {head : ScanHead} {rays : RayGroup} (good : GoodRays head rays) where
       values-good = all-joined (λ value. leb value 65535) (rays .values) (group .values) (good .values-good) sixteen;
     }
 
-    pub ledger-behind : (lent : List ℕ) → sets (sets lent 0 (ledgerSoFar head rays)) (taken * head .gates) (groupLedger head group) ≡ sets lent 0 (ledgerSoFar head (joined rays group))
-    unfolding joined groupLedger
-    ledger-behind lent =
-        ap (λ (n : ℕ). sets (sets lent 0 (ledgerSoFar head rays)) n (groupLedger head group)) (ap (λ (n : ℕ). n * head .gates) so-many ∙ sym (ledger-length head (head .gates) (rays .azimuths)) ∙ sym (zero-add _))
-        ∙ sets-append lent 0 (ledgerSoFar head rays) (groupLedger head group)
-        ∙ ap (sets lent 0) (sym (ledger-joined head (head .gates) (rays .azimuths) (group .azimuths)))
+    pub told-behind : (told : Placement → ℕ) (lent : List ℕ) → sets (sets lent 0 (toldSoFar told head rays)) (taken * head .gates) (toldSoFar told head group) ≡ sets lent 0 (toldSoFar told head (joined rays group))
+    unfolding joined
+    told-behind told lent =
+        ap (λ (n : ℕ). sets (sets lent 0 (toldSoFar told head rays)) n (toldSoFar told head group)) (ap (λ (n : ℕ). n * head .gates) so-many ∙ sym (told-length told head (head .gates) (rays .azimuths)) ∙ sym (zero-add _))
+        ∙ sets-append lent 0 (toldSoFar told head rays) (toldSoFar told head group)
+        ∙ ap (sets lent 0) (sym (told-joined told head (head .gates) (rays .azimuths) (group .azimuths)))
 
     pub sums-behind : (sums : Sums) → addedSums (head .weighting) (groupLedger head group) (group .values) (group .qualities) (addedSums (head .weighting) (ledgerSoFar head rays) (rays .values) (rays .qualities) sums) ≡ addedSums (head .weighting) (ledgerSoFar head (joined rays group)) (joined rays group .values) (joined rays group .qualities) sums
-    unfolding joined groupLedger
+    unfolding joined
     sums-behind sums =
-        let length-is = sym (ledger-length head (head .gates) (rays .azimuths)) in
+        let length-is = sym (told-length entryOf head (head .gates) (rays .azimuths)) in
         sym (added-joined (ledgerSoFar head rays) (rays .values) (rays .qualities) (groupLedger head group) (group .values) (group .qualities) (good .values-length ∙ length-is) (good .qualities-length ∙ length-is) (head .weighting) sums)
-        ∙ sym (ap (λ (l : List ℕ). addedSums (head .weighting) l (rays .values ++ group .values) (rays .qualities ++ group .qualities) sums) (ledger-joined head (head .gates) (rays .azimuths) (group .azimuths)))
+        ∙ sym (ap (λ (l : List ℕ). addedSums (head .weighting) l (rays .values ++ group .values) (rays .qualities ++ group .qualities) sums) (told-joined entryOf head (head .gates) (rays .azimuths) (group .azimuths)))

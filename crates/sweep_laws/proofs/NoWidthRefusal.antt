@@ -15,7 +15,7 @@ use Rattle.sweep_checks.specs.SweepNumbers.{stateNumber, takeNumber, closeNumbe
 use Rattle.accepted_take.specs.RayGroup.{RayGroup}
 use Rattle.accepted_take.specs.TakenLists.{takenLists, takeChecks, takeRefusal}
 use Rattle.sweep.specs.SweepOperations.{sweptAnswer, raysRefusal, counted, closeRefusal, ended}
-use Rattle.sweep_laws.specs.SweepSequence.{Held, Call, takes, closes, Sixteen, IsCall, NotRefusedBy}
+use Rattle.sweep_laws.specs.SweepSequence.{Held, rayLists, Call, takes, closes, Sixteen, IsCall, NotRefusedBy}
 use Rattle.sweep_laws.proofs.SweepInvariant.{SoFar, always-fits}
 
 -- ---- the other numbers
@@ -55,16 +55,16 @@ state-other head closed taken more = first-other _ ((λ e. omega (arith, e)) and
 -- ---- the calls
 
 module _ {head : ScanHead} {lent : Lists} {rays : RayGroup} {held : Held} (so-far : SoFar head lent rays held) where
-  checks-other : (group : RayGroup) → Other (takeChecks (held .sweep .head) (held .sweep .closed) (held .sweep .taken) group (record { ledger = held .lists .ledger; sums = held .lists .sums }))
+  checks-other : (group : RayGroup) → Other (takeChecks (held .sweep .head) (held .sweep .closed) (held .sweep .taken) group (rayLists held))
   unfolding takeChecks takeNumber
   checks-other group = other-then _ _ (state-other _ _ _ _) (scan-other _ _ _ _)
 
-  take-other : (group : RayGroup) → Sixteen (group .values) → Other (raysRefusal (held .sweep) group (record { ledger = held .lists .ledger; sums = held .lists .sums }))
+  take-other : (group : RayGroup) → Sixteen (group .values) → Other (raysRefusal (held .sweep) group (rayLists held))
   unfolding raysRefusal takeRefusal firstRefusal _then_ Other
   take-other group sixteen e =
-      go (takeChecks (held .sweep .head) (held .sweep .closed) (held .sweep .taken) group (record { ledger = held .lists .ledger; sums = held .lists .sums })) refl e
+      go (takeChecks (held .sweep .head) (held .sweep .closed) (held .sweep .taken) group (rayLists held)) refl e
     where
-      go : (n : ℕ) → takeChecks (held .sweep .head) (held .sweep .closed) (held .sweep .taken) group (record { ledger = held .lists .ledger; sums = held .lists .sums }) ≡ n → (n then cond (fitWidths (takenLists (held .sweep .head) (held .sweep .taken) group (record { ledger = held .lists .ledger; sums = held .lists .sums }) .sums)) 0 31) ≡ 31 → ⊥
+      go : (n : ℕ) → takeChecks (held .sweep .head) (held .sweep .closed) (held .sweep .taken) group (rayLists held) ≡ n → (n then cond (fitWidths (takenLists (held .sweep .head) (held .sweep .taken) group (rayLists held) .sums)) 0 31) ≡ 31 → ⊥
       go zero z f = let wrong : _≡_ {A = ℕ} 0 31 = rw (always-fits so-far group sixteen z) at f in omega (arith, wrong)
       go (suc n) z f = checks-other group (z ∙ f)
 

@@ -14,21 +14,22 @@ use Rattle.tally.specs.LentSums.{Sums}
 use Rattle.tally.specs.Tally.{cleared, addedSums}
 use Rattle.tally.specs.Width.{fitWidths}
 use Rattle.tally.proofs.TallyFromNothing.{from-nothing}
+use Rattle.placement.specs.Gate.{entryOf, markOf}
 use Rattle.publish.specs.Publish.{publishedCells}
 use Rattle.scan.specs.declared.head.ScanHead.{ScanHead}
 use Rattle.scan.specs.LentLists.{Lists}
 use Rattle.scan.specs.Scan.{raysOf, cellsOf}
-use Rattle.scan_ledger.specs.ScanLedger.{ledgerOf}
+use Rattle.scan_ledger.specs.ScanLedger.{gatesTold}
 use Rattle.accepted_remap.specs.FilledLists.{filledLists}
 use Rattle.accepted_remap.proofs.FilledCells.{published-are}
-use Rattle.accepted_take.specs.RayGroup.{RayGroup, RayLists}
-use Rattle.accepted_take.specs.TakenLists.{groupLedger, takenLists, takeChecks, takeRefusal}
+use Rattle.accepted_take.specs.RayGroup.{RayGroup}
+use Rattle.accepted_take.specs.TakenLists.{groupLedger, groupMarks, takenLists, takeChecks, takeRefusal}
 use Rattle.accepted_take.proofs.AcceptedGroup.{AcceptedSums, AcceptedGroup, accepted-group}
 use Rattle.sweep.specs.declared.Swept.the-variants.{State, Refused}
 use Rattle.sweep.specs.SweepOperations.{sweptAnswer, raysRefusal, counted, closeRefusal, ended}
 use Rattle.sweep.proofs.ClosedSweep.{accepted-close}
-use Rattle.sweep_laws.specs.SweepSequence.{Held, Call, takes, closes, latest, handedOn, Sixteen, IsCall, joined, acceptedWith, wholeScan}
-use Rattle.sweep_laws.proofs.GoodRays.{ledgerSoFar, GoodRays, values-most, qualities-most, rays-fit, good-joined, ledger-behind, sums-behind}
+use Rattle.sweep_laws.specs.SweepSequence.{Held, rayLists, Call, takes, closes, latest, handedOn, Sixteen, IsCall, joined, acceptedWith, wholeScan}
+use Rattle.sweep_laws.proofs.GoodRays.{toldSoFar, ledgerSoFar, GoodRays, values-most, qualities-most, rays-fit, good-joined, told-behind, sums-behind}
 
 not-both : {t : Bool} → t ≡ true → t ≡ false → ⊥
 not-both e f = let wrong : _≡_ {A = ℕ} 1 0 = ap (λ (b : Bool). cond b 1 0) (sym e ∙ f) in omega (arith, wrong)
@@ -42,19 +43,16 @@ pub record SoFar (head : ScanHead) (lent : Lists) (rays : RayGroup) (held : Held
   pub rays-counted : held .sweep .taken ≡ length (rays .azimuths)
   pub all-when-closed : held .sweep .closed ≡ true → length (rays .azimuths) ≡ head .rays
   pub the-ledger : held .lists .ledger ≡ sets (lent .ledger) 0 (ledgerSoFar head rays)
+  pub the-marks : held .lists .marks ≡ sets (lent .marks) 0 (toldSoFar markOf head rays)
   pub the-sums : held .lists .sums ≡ addedSums (head .weighting) (ledgerSoFar head rays) (rays .values) (rays .qualities) (cleared (lent .sums))
   pub the-cells : held .lists .cells ≡ cond (held .sweep .closed) (filledLists (wholeScan head rays) .cells) (lent .cells)
 
 module _ {head : ScanHead} {lent : Lists} {rays : RayGroup} {held : Held} (so-far : SoFar head lent rays held) where
-  -- the lists that a group is lent
-  abbrev rayLists : RayLists
-  rayLists = record { ledger = held .lists .ledger; sums = held .lists .sums }
-
-  accepted : (group : RayGroup) → takeChecks (held .sweep .head) (held .sweep .closed) (held .sweep .taken) group rayLists ≡ 0 → AcceptedGroup head (held .sweep .closed) (held .sweep .taken) group rayLists
-  accepted group e = rw (so-far .same-head) at (accepted-group (held .sweep .head) (held .sweep .closed) (held .sweep .taken) group rayLists e)
+  accepted : (group : RayGroup) → takeChecks (held .sweep .head) (held .sweep .closed) (held .sweep .taken) group (rayLists held) ≡ 0 → AcceptedGroup head (held .sweep .closed) (held .sweep .taken) group (rayLists held)
+  accepted group e = rw (so-far .same-head) at (accepted-group (held .sweep .head) (held .sweep .closed) (held .sweep .taken) group (rayLists held) e)
 
   -- the sums with a group behind the accepted rays
-  with-group : (group : RayGroup) → AcceptedGroup head (held .sweep .closed) (held .sweep .taken) group rayLists → takenLists (held .sweep .head) (held .sweep .taken) group rayLists .sums ≡ addedSums (head .weighting) (ledgerSoFar head (joined rays group)) (joined rays group .values) (joined rays group .qualities) (cleared (lent .sums))
+  with-group : (group : RayGroup) → AcceptedGroup head (held .sweep .closed) (held .sweep .taken) group (rayLists held) → takenLists (held .sweep .head) (held .sweep .taken) group (rayLists held) .sums ≡ addedSums (head .weighting) (ledgerSoFar head (joined rays group)) (joined rays group .values) (joined rays group .qualities) (cleared (lent .sums))
   unfolding takenLists
   with-group group next =
       rw (so-far .same-head)
@@ -62,14 +60,14 @@ module _ {head : ScanHead} {lent : Lists} {rays : RayGroup} {held : Held} (so-fa
       ∙ sums-behind (so-far .rays-good) next (so-far .rays-counted) (cleared (lent .sums)))
 
   -- a group that passes the other checks always fits: 31 is never given
-  pub always-fits : (group : RayGroup) → Sixteen (group .values) → takeChecks (held .sweep .head) (held .sweep .closed) (held .sweep .taken) group rayLists ≡ 0 → fitWidths (takenLists (held .sweep .head) (held .sweep .taken) group rayLists .sums) ≡ true
+  pub always-fits : (group : RayGroup) → Sixteen (group .values) → takeChecks (held .sweep .head) (held .sweep .closed) (held .sweep .taken) group (rayLists held) ≡ 0 → fitWidths (takenLists (held .sweep .head) (held .sweep .taken) group (rayLists held) .sums) ≡ true
   always-fits group sixteen e =
       let next = accepted group e in
       ap fitWidths (with-group group next) ∙ rays-fit (good-joined (so-far .rays-good) next (so-far .rays-counted) sixteen) (lent .sums)
 
   -- ---- an accepted group
 
-  after-take : (group : RayGroup) → Sixteen (group .values) → takeChecks (held .sweep .head) (held .sweep .closed) (held .sweep .taken) group rayLists ≡ 0 → SoFar head lent (joined rays group) (handedOn held (takes group (State (counted (held .sweep) group)) (takenLists (held .sweep .head) (held .sweep .taken) group rayLists)))
+  after-take : (group : RayGroup) → Sixteen (group .values) → takeChecks (held .sweep .head) (held .sweep .closed) (held .sweep .taken) group (rayLists held) ≡ 0 → SoFar head lent (joined rays group) (handedOn held (takes group (State (counted (held .sweep) group)) (takenLists (held .sweep .head) (held .sweep .taken) group (rayLists held))))
   unfolding handedOn latest counted takenLists joined
   after-take group sixteen e =
       let next = accepted group e in
@@ -82,7 +80,11 @@ module _ {head : ScanHead} {lent : Lists} {rays : RayGroup} {held : Held} (so-fa
         the-ledger =
             rw (so-far .same-head)
             (ap (λ (l : List ℕ). sets l (held .sweep .taken * head .gates) (groupLedger head group)) (so-far .the-ledger)
-            ∙ ledger-behind (so-far .rays-good) next (so-far .rays-counted) (lent .ledger));
+            ∙ told-behind (so-far .rays-good) next (so-far .rays-counted) entryOf (lent .ledger));
+        the-marks =
+            rw (so-far .same-head)
+            (ap (λ (l : List ℕ). sets l (held .sweep .taken * head .gates) (groupMarks head group)) (so-far .the-marks)
+            ∙ told-behind (so-far .rays-good) next (so-far .rays-counted) markOf (lent .marks));
         the-sums = with-group group next;
         the-cells = so-far .the-cells ∙ rw (next .open-yet);
       }
@@ -97,6 +99,7 @@ module _ {head : ScanHead} {lent : Lists} {rays : RayGroup} {held : Held} (so-fa
     rays-counted = so-far .rays-counted;
     all-when-closed = so-far .all-when-closed;
     the-ledger = so-far .the-ledger;
+    the-marks = so-far .the-marks;
     the-sums = so-far .the-sums;
     the-cells = so-far .the-cells;
   })
@@ -104,7 +107,7 @@ module _ {head : ScanHead} {lent : Lists} {rays : RayGroup} {held : Held} (so-fa
   -- ---- an accepted closing
 
   pub sums-are : held .lists .sums ≡ filledLists (wholeScan head rays) .sums
-  unfolding filledLists wholeScan raysOf cellsOf ledgerOf
+  unfolding filledLists wholeScan raysOf cellsOf gatesTold
   sums-are =
       so-far .the-sums
       ∙ from-nothing (head .weighting) (ledgerSoFar head rays) (rays .values) (rays .qualities) (lent .sums) (so-far .sums-exact .counts-length) (so-far .sums-exact .quality-sums-length) (so-far .sums-exact .value-sums-length)
@@ -127,6 +130,7 @@ module _ {head : ScanHead} {lent : Lists} {rays : RayGroup} {held : Held} (so-fa
         rays-counted = so-far .rays-counted;
         all-when-closed = λ was. sym (so-far .rays-counted) ∙ le-antisymm (known .rays-most) (known .rays-least) ∙ ap (λ (h : ScanHead). h .rays) (so-far .same-head);
         the-ledger = so-far .the-ledger;
+        the-marks = so-far .the-marks;
         the-sums = so-far .the-sums;
         the-cells = published;
       }
@@ -139,17 +143,17 @@ module _ {head : ScanHead} {lent : Lists} {rays : RayGroup} {held : Held} (so-fa
   pub after-call : (call : Call) → IsCall held call → SoFar head lent (acceptedWith rays call) (handedOn held call)
   unfolding IsCall acceptedWith handedOn latest sweptAnswer raysRefusal takeRefusal
   after-call (takes group (State sweep) lists) (contract, sixteen) =
-      let told = given-is (raysRefusal (held .sweep) group rayLists) (contract .the-answer) in
+      let told = given-is (raysRefusal (held .sweep) group (rayLists held)) (contract .the-answer) in
       let none = then-none _ _ (told .0) .0 in
-      rw (told .1, filled-is rayLists (told .0) (contract .the-lists)) (after-take group sixteen none)
+      rw (told .1, filled-is (rayLists held) (told .0) (contract .the-lists)) (after-take group sixteen none)
   after-call (takes group (Refused number) lists) (contract, sixteen) =
-      let told = refused-is (raysRefusal (held .sweep) group rayLists) (counted (held .sweep) group) (contract .the-answer) in
-      let same = lists-left _ rayLists _ (told .1) (contract .the-lists) in
-      after-refusal (handedOn held (takes group (Refused number) lists) .lists) (λ i. record { ledger = same i .ledger; sums = same i .sums; cells = held .lists .cells })
+      let told = refused-is (raysRefusal (held .sweep) group (rayLists held)) (counted (held .sweep) group) (contract .the-answer) in
+      let same = lists-left _ (rayLists held) _ (told .1) (contract .the-lists) in
+      after-refusal (handedOn held (takes group (Refused number) lists) .lists) (λ i. record { ledger = same i .ledger; marks = same i .marks; sums = same i .sums; cells = held .lists .cells })
   after-call (closes (State sweep) cells) contract =
       let told = given-is (closeRefusal (held .sweep) (held .lists .sums) (held .lists .cells)) (contract .the-answer) in
       rw (told .1, filled-is (held .lists .cells) (told .0) (contract .the-cells)) (after-close (told .0))
   after-call (closes (Refused number) cells) contract =
       let told = refused-is (closeRefusal (held .sweep) (held .lists .sums) (held .lists .cells)) (ended (held .sweep)) (contract .the-answer) in
       let same = lists-left _ (held .lists .cells) _ (told .1) (contract .the-cells) in
-      after-refusal (handedOn held (closes (Refused number) cells) .lists) (λ i. record { ledger = held .lists .ledger; sums = held .lists .sums; cells = same i })
+      after-refusal (handedOn held (closes (Refused number) cells) .lists) (λ i. record { ledger = held .lists .ledger; marks = held .lists .marks; sums = held .lists .sums; cells = same i })

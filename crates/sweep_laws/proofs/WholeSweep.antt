@@ -23,7 +23,7 @@ use Rattle.scan.specs.Rays.{regularRays, allGates}
 use Rattle.scan.specs.Scan.{raysOf, cellsOf}
 use Rattle.scan.specs.ScanRefusal.{listsExact, scanNumber, scanRefusal, refusalFor}
 use Rattle.scan.proofs.AcceptedScan.{AcceptedNumbers, accepted-numbers}
-use Rattle.scan_ledger.specs.ScanLedger.{ledgerOf}
+use Rattle.scan_ledger.specs.ScanLedger.{gatesTold}
 use Rattle.accepted_remap.specs.FilledLists.{filledLists}
 use Rattle.remap.specs.declared.Remapped.{Remapped}
 use Rattle.remap.specs.Remap.{Remaps}
@@ -47,8 +47,12 @@ use Rattle.sweep_laws.proofs.NoWidthRefusal.{call-other}
 
 module _ {head : ScanHead} {lent : Lists} {rays : RayGroup} {held : Held} (accepted : gridAccepted (head .grid) ≡ true) (so-far : SoFar head lent rays held) where
   ledger-is : held .lists .ledger ≡ sets (lent .ledger) 0 (filledLists (wholeScan head rays) .ledger)
-  unfolding filledLists wholeScan raysOf ledgerOf
+  unfolding filledLists wholeScan raysOf gatesTold
   ledger-is = so-far .the-ledger
+
+  marks-are : held .lists .marks ≡ sets (lent .marks) 0 (filledLists (wholeScan head rays) .marks)
+  unfolding filledLists wholeScan raysOf gatesTold
+  marks-are = so-far .the-marks
 
   total : sumTo (λ cell. getD (held .lists .sums .counts) cell 0) (length (held .lists .sums .counts)) ≡ placedOf (wholeScan head rays)
   unfolding wholeScan cellsOf
@@ -62,6 +66,7 @@ module _ {head : ScanHead} {lent : Lists} {rays : RayGroup} {held : Held} (accep
     rays-counted = so-far .rays-counted;
     all-when-closed = so-far .all-when-closed;
     the-ledger = ledger-is;
+    the-marks = marks-are;
     the-sums = sums-are so-far;
     the-cells = so-far .the-cells;
     count-total = total;
@@ -87,7 +92,7 @@ module _ (head : ScanHead) (lent : Lists) (sums : Sums) (sweep : Sweep) (opens :
   numbers = accepted-numbers head _ _ _ (told .0)
 
   at-first : SoFar head lent noRays (heldFrom (opened head) lent (cleared (lent .sums)))
-  unfolding heldFrom opened noRays addedSums ledgerOf allGates flatMap regularRays allOf Sixteen
+  unfolding heldFrom opened noRays addedSums gatesTold allGates flatMap regularRays allOf Sixteen
   at-first = record {
     rays-good = record {
       rays-most = omega arith;
@@ -103,6 +108,7 @@ module _ (head : ScanHead) (lent : Lists) (sums : Sums) (sweep : Sweep) (opens :
     rays-counted = refl;
     all-when-closed = λ was. let wrong : _≡_ {A = ℕ} 0 1 = ap (λ (b : Bool). cond b 1 0) was in absurd (omega (arith, wrong));
     the-ledger = refl;
+    the-marks = refl;
     the-sums = sym (added-none (head .weighting) [] [] [] (cleared (lent .sums)));
     the-cells = refl;
   }
@@ -132,4 +138,4 @@ module _ (head : ScanHead) (lent : Lists) (sums : Sums) (sweep : Sweep) (opens :
     pub as-remapped : (length (acceptedRays noRays calls .azimuths) ≡ 0 → ⊥) → (lists : Both Lists Lists) (answer : Remapped) → listsExact (wholeScan head (acceptedRays noRays calls)) (lists .entry) ≡ true → Remaps (wholeScan head (acceptedRays noRays calls)) lists answer → AsRemapped lent (heldAfter (heldFrom sweep lent sums) calls) (lists .exit)
     as-remapped some lists answer exact remaps =
         let same = filled-is (lists .entry) (whole-accepted some (lists .entry) exact) (remaps .the-lists) in
-        rw same (record { same-ledger = whole-sweep .the-ledger; same-sums = whole-sweep .the-sums; same-cells = whole-sweep .the-cells })
+        rw same (record { same-ledger = whole-sweep .the-ledger; same-marks = whole-sweep .the-marks; same-sums = whole-sweep .the-sums; same-cells = whole-sweep .the-cells })

@@ -25,7 +25,11 @@ pub record Held : Type 0 where
 
 -- after an accepted opening, which left these sums
 unfoldable pub heldFrom : Sweep → Lists → Sums → Held
-heldFrom sweep lent sums = record { sweep = sweep; lists = record { ledger = lent .ledger; sums = sums; cells = lent .cells } }
+heldFrom sweep lent sums = record { sweep = sweep; lists = record { ledger = lent .ledger; marks = lent .marks; sums = sums; cells = lent .cells } }
+
+-- the lists that a group is lent
+abbrev pub rayLists : Held → RayLists
+rayLists held = record { ledger = held .lists .ledger; marks = held .lists .marks; sums = held .lists .sums }
 
 -- ---- calls: what is given, what is answered, and the lists afterwards
 
@@ -41,11 +45,11 @@ latest before (Refused number) = before
 unfoldable pub handedOn : Held → Call → Held
 handedOn held (takes group answer lists) = record {
   sweep = latest (held .sweep) answer;
-  lists = record { ledger = lists .ledger; sums = lists .sums; cells = held .lists .cells };
+  lists = record { ledger = lists .ledger; marks = lists .marks; sums = lists .sums; cells = held .lists .cells };
 }
 handedOn held (closes answer cells) = record {
   sweep = latest (held .sweep) answer;
-  lists = record { ledger = held .lists .ledger; sums = held .lists .sums; cells = cells };
+  lists = record { ledger = held .lists .ledger; marks = held .lists .marks; sums = held .lists .sums; cells = cells };
 }
 
 -- values of 16 bits, as every list of them that is given
@@ -55,7 +59,7 @@ Sixteen values = allOf (λ value. leb value 65535) values ≡ true
 -- the call is one of `take_rays` or `close`, on what the caller holds
 unfoldable pub IsCall : Held → Call → Type 0
 IsCall held (takes group answer lists) =
-    Takes (held .sweep) group (record { entry = record { ledger = held .lists .ledger; sums = held .lists .sums }; exit = lists }) answer
+    Takes (held .sweep) group (record { entry = rayLists held; exit = lists }) answer
     × Sixteen (group .values)
 IsCall held (closes answer cells) = Closes (held .sweep) (held .lists .sums) (record { entry = held .lists .cells; exit = cells }) answer
 

@@ -1,4 +1,4 @@
--- Document 02, T-01, and demand 2 over a sweep: what a caller holds, beside the whole scan made of the accepted rays. Assumes nothing.
+-- Document 02, T-01 with T-02's marks, and demand 2 over a sweep: what a caller holds, beside the whole scan made of the accepted rays. Assumes nothing.
 use mathlib.Core.Bool.{true, cond}
 use mathlib.Core.Path.{_≡_}
 use lib.ListN.{length, getD}
@@ -17,8 +17,9 @@ pub record WholeSweep (head : ScanHead) (lent : Lists) (rays : RayGroup) (held :
   pub same-head : held .sweep .head ≡ head
   pub rays-counted : held .sweep .taken ≡ length (rays .azimuths)
   pub all-when-closed : held .sweep .closed ≡ true → length (rays .azimuths) ≡ head .rays
-  -- the first entries are those of the whole scan; those of rays not yet taken are as lent
+  -- the first entries and marks are those of the whole scan; those of rays not yet taken are as lent
   pub the-ledger : held .lists .ledger ≡ sets (lent .ledger) 0 (filledLists (wholeScan head rays) .ledger)
+  pub the-marks : held .lists .marks ≡ sets (lent .marks) 0 (filledLists (wholeScan head rays) .marks)
   pub the-sums : held .lists .sums ≡ filledLists (wholeScan head rays) .sums
   -- until closing as lent
   pub the-cells : held .lists .cells ≡ cond (held .sweep .closed) (filledLists (wholeScan head rays) .cells) (lent .cells)
@@ -28,5 +29,6 @@ pub record WholeSweep (head : ScanHead) (lent : Lists) (rays : RayGroup) (held :
 -- by what `remap` leaves of it
 pub record AsRemapped (lent : Lists) (held : Held) (remapped : Lists) : Type 0 where
   pub same-ledger : held .lists .ledger ≡ sets (lent .ledger) 0 (remapped .ledger)
+  pub same-marks : held .lists .marks ≡ sets (lent .marks) 0 (remapped .marks)
   pub same-sums : held .lists .sums ≡ remapped .sums
   pub same-cells : held .lists .cells ≡ cond (held .sweep .closed) (remapped .cells) (lent .cells)

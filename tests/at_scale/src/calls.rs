@@ -55,15 +55,25 @@ fn left<T: PartialEq + Debug>(answer: u32, before: T, after: T) -> Result<T, u32
     }
 }
 
-fn place_as_c(site: Site, grid: Grid, azimuth: i64, range: i64) -> Result<Placement, u32> {
+/// The mark is a byte here, and has to be 1 or 0.
+pub fn place_as_c(site: Site, grid: Grid, azimuth: i64, range: i64) -> Result<Placement, u32> {
     let (site, grid) = (site_numbers(site), grid_numbers(grid));
-    let before = (7, 8, 9);
-    let (mut cell, mut x, mut y) = before;
-    // The pointers are to two structs and three numbers of this function.
-    let answer = unsafe { uldrevin_place(&site, &grid, azimuth, range, &mut cell, &mut x, &mut y) };
-    let (cell, x, y) = left(answer, before, (cell, x, y))?;
-    let cell = (cell != OUTSIDE).then_some(cell);
-    Ok(Placement { x, y, cell })
+    let before = (7, 8, 9, 10);
+    let (mut cell, mut x, mut y, mut mark) = before;
+    // The pointers are to two structs and four numbers of this function.
+    let answer = unsafe {
+        uldrevin_place(
+            &site, &grid, azimuth, range, &mut cell, &mut x, &mut y, &mut mark,
+        )
+    };
+    let (cell, x, y, mark) = left(answer, before, (cell, x, y, mark))?;
+    assert!(mark <= 1, "a mark is {mark}");
+    Ok(Placement {
+        x,
+        y,
+        cell: (cell != OUTSIDE).then_some(cell),
+        mark: mark == 1,
+    })
 }
 
 pub fn place(site: Site, grid: Grid, azimuth: i64, range: i64) -> Result<Placement, u32> {
@@ -91,6 +101,8 @@ fn remap_as_c(head: &Head, scan: GateLists, lists: CellLists) -> Result<(), u32>
             scan.qualities.len(),
             lists.ledger.as_mut_ptr(),
             lists.ledger.len(),
+            lists.marks.as_mut_ptr(),
+            lists.marks.len(),
             lists.counts.as_mut_ptr(),
             lists.counts.len(),
             lists.quality_sums.as_mut_ptr(),

@@ -15,6 +15,8 @@ pub const REFUSALS: [u32; 18] = [
 struct KindCounts {
     cases: u64,
     gates: u64,
+    /// How many of them are marked, where the calls tell marks.
+    marked: Option<u64>,
     /// How often each call had each answer.
     answers: BTreeMap<(&'static str, u32), u64>,
     /// For each number that is handed in, how often 32 bits do not hold it.
@@ -37,6 +39,10 @@ impl KindCounts {
     fn refused(&self) -> u64 {
         self.calls() - self.answered(0)
     }
+
+    fn unmarked(&self) -> Option<u64> {
+        self.marked.map(|marked| self.gates - marked)
+    }
 }
 
 #[derive(Default)]
@@ -52,6 +58,9 @@ impl Counts {
         let counts = &mut self.kinds[kind as usize];
         counts.cases += 1;
         counts.gates += outcome.gates as u64;
+        if let Some(marked) = outcome.marked {
+            *counts.marked.get_or_insert(0) += marked as u64;
+        }
         for answer in &outcome.answers {
             *counts
                 .answers
@@ -75,7 +84,15 @@ impl Counts {
         answers.get(&(call, number)).copied().unwrap_or(0)
     }
 
-    /// What no case tried: refusal numbers, answers to a sweep's calls and, for each kind, numbers that 32 bits do not hold.
+    /// The marks that no gate of a kind had.
+    fn missing_marks(&self, kind: Kind) -> impl Iterator<Item = String> {
+        let counts = &self.kinds[kind as usize];
+        let had = [(counts.marked, "marked"), (counts.unmarked(), "unmarked")];
+        let none = had.into_iter().filter(|(gates, _)| *gates == Some(0));
+        none.map(move |(_, mark)| format!("no gate was {mark} in {}", kind.title()))
+    }
+
+    /// What no case tried: refusal numbers, answers to a sweep's calls and, for each kind, marks and numbers that 32 bits do not hold.
     pub fn missing(&self) -> Vec<String> {
         let refusals = REFUSALS
             .into_iter()
@@ -94,6 +111,7 @@ impl Counts {
         };
         refusals
             .chain(CALLS.iter().flat_map(answers_to))
+            .chain(KINDS.into_iter().flat_map(|kind| self.missing_marks(kind)))
             .chain(KINDS.into_iter().flat_map(in_32_bits))
             .collect()
     }
@@ -123,7 +141,7 @@ impl Counts {
         }
     }
 
-    /// A column for each kind; a row for each refusal number, and for each number that is handed in.
+    /// A column for each kind; a row for each mark, for each refusal number, and for each number that is handed in.
     pub fn print(&self) {
         print!("{:>10}", "");
         for kind in KINDS {
@@ -133,6 +151,8 @@ impl Counts {
         self.print_row("cases", |counts| Some(counts.cases));
         self.print_row("calls", |counts| Some(counts.calls()));
         self.print_row("gates", |counts| Some(counts.gates));
+        self.print_row("marked", |counts| counts.marked);
+        self.print_row("unmarked", KindCounts::unmarked);
         self.print_row("refused", |counts| Some(counts.refused()));
         for number in REFUSALS {
             self.print_row(&format!("by {number}"), |counts| {

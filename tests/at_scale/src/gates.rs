@@ -1,4 +1,4 @@
-//! Single gates: answer, cell and position by the library and by the plain program.
+//! Single gates: answer, cell, position and mark by the library, as the crate and as C have it, and by the plain program.
 
 use crate::calls;
 use crate::draw::Draw;
@@ -49,7 +49,7 @@ fn near_its_grid(draw: &mut Draw, tables: &Tables) -> Case {
     }
 }
 
-/// A gate within a few centimetres of a line of the HRAP mesh.
+/// A gate within a few centimetres of a line of the HRAP mesh, or of where the mark changes beside one.
 fn near_a_mesh_line(draw: &mut Draw, tables: &Tables) -> Case {
     let (site, azimuth) = (good_site(draw), good_azimuth(draw));
     let crossed = range_at_mesh_line(draw, tables, site, azimuth);
@@ -129,6 +129,12 @@ pub fn compare(case: &Case, tables: &Tables) -> Outcome {
     } = *case;
     let plain = place(tables, site, grid, azimuth, range);
     let library = calls::place(site, grid, azimuth, range);
-    let difference = compare_answers("place", &library, &plain);
-    Outcome::new("place", &plain, 1, case.handed_in(), difference)
+    let as_c = calls::place_as_c(site, grid, azimuth, range);
+    let difference = compare_answers("place", &library, &plain)
+        .or_else(|| compare_answers("uldrevin_place", &as_c, &plain));
+    let marked = plain.map_or(0, |placement| usize::from(placement.mark));
+    Outcome {
+        marked: Some(marked),
+        ..Outcome::new("place", &plain, 1, case.handed_in(), difference)
+    }
 }

@@ -62,6 +62,7 @@ impl Kind {
         catch_unwind(|| self.compare(seed, tables)).unwrap_or_else(|_| Outcome {
             answers: Vec::new(),
             gates: 0,
+            marked: None,
             handed_in: Vec::new(),
             difference: Some("a panic".to_string()),
         })

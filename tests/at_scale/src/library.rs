@@ -116,5 +116,6 @@ pub fn from_placement(placement: uldrevin::Placement) -> Placement {
         x: placement.x,
         y: placement.y,
         cell: placement.cell,
+        mark: placement.mark,
     }
 }

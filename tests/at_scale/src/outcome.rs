@@ -16,6 +16,8 @@ pub struct Outcome {
     pub answers: Vec<Answer>,
     /// The gates of accepted calls; a refused call has none.
     pub gates: usize,
+    /// How many of them are marked, where the calls tell marks.
+    pub marked: Option<usize>,
     /// The numbers that were handed in, other than those of lists and records.
     pub handed_in: Vec<Named>,
     /// Where the library differs.
@@ -23,7 +25,7 @@ pub struct Outcome {
 }
 
 impl Outcome {
-    /// Of a case that is one call.
+    /// Of a case that is one call, and tells no marks.
     pub fn new<T>(
         call: &'static str,
         plain: &Result<T, u32>,
@@ -38,6 +40,7 @@ impl Outcome {
         Outcome {
             answers: vec![Answer { call, number }],
             gates,
+            marked: None,
             handed_in,
             difference,
         }

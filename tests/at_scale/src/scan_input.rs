@@ -5,7 +5,7 @@ use crate::sites_and_grids::{
     good_site, grid_anywhere, grid_kind, grid_near, position, range_at_mesh_line, spoil_grid,
     spoil_site,
 };
-use plain_program::placement::{AZIMUTHS, FARTHEST, HRAP_KIND, LAST_AZIMUTH, RANGES};
+use plain_program::placement::{Site, AZIMUTHS, FARTHEST, HRAP_KIND, LAST_AZIMUTH, RANGES};
 use plain_program::scan::{
     Given, Head, BY_QUALITY, GATES, MOST_GATES, MOST_QUALITY, MOST_SPACING, NOT_MEASURED, NO_ECHO,
     PLAIN, RAYS, SPACINGS,
@@ -82,13 +82,21 @@ fn centres_about(draw: &mut Draw, gates: i64, range: i64) -> (i64, i64) {
     (first.min(FARTHEST - (gates - 1) * spacing), spacing)
 }
 
+/// A range near which edge lines are met. Those of RADOLAN are drawn afterwards.
+fn range_at_lines(draw: &mut Draw, tables: &Tables, kind: i64, site: Site, azimuth: i64) -> i64 {
+    match kind {
+        HRAP_KIND => range_at_mesh_line(draw, tables, site, azimuth),
+        _ => draw.good(RANGES),
+    }
+}
+
 /// A head with every number good but for the shape, which is taken as it is. Mostly a ray at the azimuth meets the grid.
 fn head(draw: &mut Draw, tables: &Tables, shape: Shape, azimuth: i64) -> Head {
     let (site, kind) = (good_site(draw), grid_kind(draw));
     let gates = shape.gates.clamp(1, MOST_GATES);
-    let (first, spacing) = match (kind, draw.below(4)) {
-        (HRAP_KIND, 0) => {
-            let range = range_at_mesh_line(draw, tables, site, azimuth);
+    let (first, spacing) = match draw.below(4) {
+        0 => {
+            let range = range_at_lines(draw, tables, kind, site, azimuth);
             centres_about(draw, gates, range)
         }
         _ => centres(draw, gates),

@@ -1,11 +1,11 @@
-//! Whole scans: the answer and all six lists by the library and by the plain program.
+//! Whole scans: the answer and all lists that are written by the library and by the plain program.
 
 use crate::calls;
 use crate::draw::Draw;
 use crate::handed_in::scan_numbers;
 use crate::outcome::{compare_answers, Outcome};
+use crate::output_lists::{count_marked, Lengths, Lists};
 use crate::scan_input::{scan_of, spoil, ScanInput, Shape};
-use crate::six_lists::{Lengths, Lists};
 use plain_program::placement::MOST_COLUMNS_OR_ROWS;
 use plain_program::scan::{remap, Lent, MOST_GATES, MOST_RAYS};
 use plain_program::sine::Tables;
@@ -62,6 +62,7 @@ pub fn draw(draw: &mut Draw, tables: &Tables) -> Case {
 fn by_plain_program(case: &Case, tables: &Tables, lists: &mut Lists) -> Result<(), u32> {
     let mut lent = Lent {
         ledger: lists.ledger.lent(),
+        marks: lists.marks.lent(),
         counts: lists.counts.lent(),
         quality_sums: lists.quality_sums.lent(),
         value_sums: lists.value_sums.lent(),
@@ -74,6 +75,7 @@ fn by_plain_program(case: &Case, tables: &Tables, lists: &mut Lists) -> Result<(
 fn by_library(case: &Case, lists: &mut Lists) -> Result<(), u32> {
     let lent = uldrevin::CellLists {
         ledger: lists.ledger.lent(),
+        marks: lists.marks.lent(),
         counts: lists.counts.lent(),
         quality_sums: lists.quality_sums.lent(),
         value_sums: lists.value_sums.lent(),
@@ -96,11 +98,10 @@ pub fn compare(case: &Case, tables: &Tables) -> Outcome {
         .or_else(|| with_library.compare(&with_plain, "the plain program"))
         .or_else(unchanged);
     let handed_in = scan_numbers(&case.scan.head);
-    Outcome::new(
-        "remap",
-        &plain,
-        case.scan.values.len(),
-        handed_in,
-        difference,
-    )
+    let marked = plain.map_or(0, |()| count_marked(with_plain.marks.read()));
+    let gates = case.scan.values.len();
+    Outcome {
+        marked: Some(marked),
+        ..Outcome::new("remap", &plain, gates, handed_in, difference)
+    }
 }

@@ -3,7 +3,7 @@
 use crate::draw::Draw;
 use plain_program::placement::{
     place, Grid, Site, CORNERS, FARTHEST, FIRST_CELLS, HRAP_KIND, HRAP_SIDE, LATITUDES, LONGITUDES,
-    RADOLAN_KIND, SIDES, SIZES,
+    MARKED_WITHIN, RADOLAN_KIND, SIDES, SIZES,
 };
 use plain_program::sine::Tables;
 use std::ops::RangeInclusive;
@@ -45,9 +45,14 @@ pub fn position(tables: &Tables, kind: i64, site: Site, azimuth: i64, range: i64
     (placement.x, placement.y)
 }
 
-/// The first range from 0 to `far` at which the mesh number is another than at 0, where it changes once; `far` where it does not.
-fn crossing(far: i64, mesh_number: impl Fn(i64) -> i64) -> i64 {
-    let (mut low, mut high) = (0, far);
+/// The remainders by the side at which the cell or the mark is another than one centimetre before.
+fn changes(side: i64) -> [i64; 3] {
+    [0, MARKED_WITHIN, side - MARKED_WITHIN]
+}
+
+/// A range beyond `near` at which the mesh number is another than one centimetre before; `far` where it is the same at both.
+fn crossing(near: i64, far: i64, mesh_number: impl Fn(i64) -> i64) -> i64 {
+    let (mut low, mut high) = (near, far);
     let before = mesh_number(low);
     while high - low > 1 {
         let middle = low + (high - low) / 2;
@@ -60,12 +65,14 @@ fn crossing(far: i64, mesh_number: impl Fn(i64) -> i64) -> i64 {
     high
 }
 
-/// A range at which the ray crosses a line of the HRAP mesh, if it crosses any on the part that is drawn.
+/// A range at which the ray crosses a line of the HRAP mesh, or its marks begin or end beside one, if any on the part that is drawn.
 pub fn range_at_mesh_line(draw: &mut Draw, tables: &Tables, site: Site, azimuth: i64) -> i64 {
-    let (far, west_east) = (draw.good(10..=FARTHEST), draw.one_in(2));
-    crossing(far, |range| {
+    let near = draw.good(0..=FARTHEST - 10);
+    let far = draw.good(near + 10..=FARTHEST);
+    let (west_east, change) = (draw.one_in(2), draw.one_of(&changes(HRAP_SIDE)));
+    crossing(near, far, |range| {
         let (x, y) = position(tables, HRAP_KIND, site, azimuth, range);
-        (if west_east { x } else { y }).div_euclid(HRAP_SIDE)
+        (if west_east { x - change } else { y - change }).div_euclid(HRAP_SIDE)
     })
 }
 
@@ -74,10 +81,10 @@ fn cells_before(draw: &mut Draw, size: i64) -> i64 {
     draw.good(-1..=size)
 }
 
-/// A corner so that so many cells lie between it and the gate, whose edges may pass within three centimetres of the gate.
+/// A corner so that so many cells lie between it and the gate, which is often within two centimetres of where cell or mark changes.
 fn radolan_corner(draw: &mut Draw, gate: i64, side: i64, size: i64) -> i64 {
     let offset = match draw.below(2) {
-        0 => draw.within(-3..=3),
+        0 => draw.one_of(&changes(side)) + draw.within(-2..=1),
         _ => draw.within(0..=side - 1),
     };
     let corner = gate - cells_before(draw, size) * side - offset;

@@ -80,10 +80,12 @@ pub fn alter_state(draw: &mut Draw, sweep: &Sweep) -> Vec<Step> {
 /// The cells of good rays' gates, measured or not, with what the rays add to each.
 fn reached(tables: &Tables, rays: &ScanInput) -> Vec<CellSums> {
     let cells = (rays.head.grid.columns * rays.head.grid.rows) as usize;
-    let (mut ledger, mut counts) = (vec![0; rays.values.len()], vec![0; cells]);
+    let gates = rays.values.len();
+    let (mut ledger, mut counts) = (vec![0; gates], vec![0; cells]);
     let (mut quality_sums, mut value_sums) = (vec![0; cells], vec![0; cells]);
     let mut lent = Lent {
         ledger: &mut ledger,
+        marks: &mut vec![0; gates],
         counts: &mut counts,
         quality_sums: &mut quality_sums,
         value_sums: &mut value_sums,

@@ -1,8 +1,8 @@
 //! A caller who feeds a scan to a sweep, as steps that are drawn.
 
 use crate::draw::Draw;
+use crate::output_lists::Lengths;
 use crate::scan_input::{spoil_contents, spoil_lengths, spoil_number, ScanInput};
-use crate::six_lists::Lengths;
 use crate::sweep_alter::{alter_state, sums_near_a_width, sums_to_publish};
 use crate::sweep_step::{CellSums, Step};
 use plain_program::scan::{GATES, RAYS};

@@ -8,7 +8,7 @@ use plain_program::sweep::{Sweep, CLOSED, OPEN};
 use uldrevin::exports::{
     uldrevin_sweep_close, uldrevin_sweep_open, uldrevin_sweep_take, SweepNumbers,
 };
-use uldrevin::{GateLists, Refusal, SumLists};
+use uldrevin::{EntryLists, GateLists, Refusal, SumLists};
 
 fn sweep_numbers(sweep: &Sweep) -> SweepNumbers {
     SweepNumbers {
@@ -49,7 +49,7 @@ pub fn open_as_c(head: &Head, sums: &mut SumLists, sweep: &mut Sweep) -> u32 {
 pub fn take_as_c(
     sweep: &mut Sweep,
     rays: GateLists,
-    ledger: &mut [u32],
+    entries: &mut EntryLists,
     sums: &mut SumLists,
 ) -> u32 {
     let mut numbers = sweep_numbers(sweep);
@@ -63,8 +63,10 @@ pub fn take_as_c(
             rays.values.len(),
             rays.qualities.as_ptr(),
             rays.qualities.len(),
-            ledger.as_mut_ptr(),
-            ledger.len(),
+            entries.ledger.as_mut_ptr(),
+            entries.ledger.len(),
+            entries.marks.as_mut_ptr(),
+            entries.marks.len(),
             sums.counts.as_mut_ptr(),
             sums.counts.len(),
             sums.quality_sums.as_mut_ptr(),
@@ -139,10 +141,15 @@ pub fn open(head: &Head, sums: &mut SumLists, sweep: &mut Sweep) -> u32 {
     }
 }
 
-pub fn take(sweep: &mut Sweep, rays: GateLists, ledger: &mut [u32], sums: &mut SumLists) -> u32 {
+pub fn take(
+    sweep: &mut Sweep,
+    rays: GateLists,
+    entries: &mut EntryLists,
+    sums: &mut SumLists,
+) -> u32 {
     match to_sweep(sweep) {
-        Some(state) => given(state.take(rays, ledger, sums), sweep),
-        None => take_as_c(sweep, rays, ledger, sums),
+        Some(state) => given(state.take(rays, entries, sums), sweep),
+        None => take_as_c(sweep, rays, entries, sums),
     }
 }
 

@@ -1,8 +1,8 @@
 //! Draws of sweeps: a scan divided at random, with refused calls between, and in some of them alterations by the caller.
 
 use crate::draw::Draw;
+use crate::output_lists::Lengths;
 use crate::scan_input::{scan_of, Shape};
-use crate::six_lists::Lengths;
 use crate::sweep_caller::Caller;
 use crate::sweep_step::Step;
 use plain_program::scan::{MOST_GATES, MOST_RAYS};

@@ -1,9 +1,9 @@
 //! What a caller of a sweep holds, and the calls on it by the plain program and by the library.
 
-use crate::six_lists::Lists;
+use crate::output_lists::Lists;
 use crate::sweep_calls;
 use crate::sweep_step::Step;
-use plain_program::scan::Sums;
+use plain_program::scan::{Entries, Sums};
 use plain_program::sine::Tables;
 use plain_program::sweep::{LentSums, Sweep};
 
@@ -50,8 +50,11 @@ pub fn by_plain_program(step: &Step, tables: &Tables, held: &mut Held) -> u32 {
     let new = match step {
         Step::Open(head, _) => Sweep::open(*head, sums),
         Step::Take(group, _) => {
-            let ledger = lists.ledger.first(lengths.ledger);
-            state.take(tables, group.given(), ledger, sums)
+            let entries = Entries {
+                ledger: lists.ledger.first(lengths.ledger),
+                marks: lists.marks.first(lengths.marks),
+            };
+            state.take(tables, group.given(), entries, sums)
         }
         _ => {
             let sums = Sums {
@@ -78,16 +81,21 @@ pub fn by_library(step: &Step, as_c: bool, held: &mut Held) -> u32 {
         quality_sums: lists.quality_sums.first(lengths.quality_sums),
         value_sums: lists.value_sums.first(lengths.value_sums),
     };
-    let ledger = lists.ledger.first(lengths.ledger);
+    let entries = &mut uldrevin::EntryLists {
+        ledger: lists.ledger.first(lengths.ledger),
+        marks: lists.marks.first(lengths.marks),
+    };
     let means = lists.means.first(lengths.means);
     let cell_qualities = lists.cell_qualities.first(lengths.cell_qualities);
     match (step, as_c) {
         (Step::Open(head, _), true) => sweep_calls::open_as_c(head, sums, state),
         (Step::Open(head, _), false) => sweep_calls::open(head, sums, state),
         (Step::Take(group, _), true) => {
-            sweep_calls::take_as_c(state, group.gate_lists(), ledger, sums)
+            sweep_calls::take_as_c(state, group.gate_lists(), entries, sums)
         }
-        (Step::Take(group, _), false) => sweep_calls::take(state, group.gate_lists(), ledger, sums),
+        (Step::Take(group, _), false) => {
+            sweep_calls::take(state, group.gate_lists(), entries, sums)
+        }
         (_, true) => sweep_calls::close_as_c(state, sums, means, cell_qualities),
         (_, false) => sweep_calls::close(state, sums, means, cell_qualities),
     }

@@ -1,7 +1,7 @@
 //! The steps of a caller who feeds a sweep: calls, and alterations of what is handed on.
 
+use crate::output_lists::{Lengths, Lists};
 use crate::scan_input::ScanInput;
-use crate::six_lists::{Lengths, Lists};
 use plain_program::scan::Head;
 use plain_program::sweep::Sweep;
 

@@ -2,8 +2,8 @@
 
 use crate::calls;
 use crate::lent_list::LentList;
+use crate::output_lists::{Lengths, Lists};
 use crate::scan_input::ScanInput;
-use crate::six_lists::{Lengths, Lists};
 use crate::sweep_held::Held;
 use plain_program::scan::Head;
 use plain_program::sweep::{Sweep, OPEN};
@@ -55,6 +55,7 @@ impl Untouched {
         }
         let lent = uldrevin::CellLists {
             ledger: lists.ledger.lent(),
+            marks: lists.marks.lent(),
             counts: lists.counts.lent(),
             quality_sums: lists.quality_sums.lent(),
             value_sums: lists.value_sums.lent(),
@@ -65,7 +66,8 @@ impl Untouched {
         Ok(lists)
     }
 
-    /// Ledger, sums and cells against those of the whole scan; entries of rays not taken, and cells before closing, against those at opening.
+    /// Ledger, marks, sums and cells against those of the whole scan; entries and marks of rays not taken, and cells before closing,
+    /// against those at opening.
     pub fn compare(&self, held: &Held) -> Option<String> {
         let whole = match self.whole() {
             Ok(lists) => lists,
@@ -79,12 +81,11 @@ impl Untouched {
             OPEN => &self.lists,
             _ => &whole,
         };
-        let mut ledger = self.lists.ledger.read().to_vec();
-        for (entry, &of_whole) in ledger.iter_mut().zip(whole.ledger.read()) {
-            *entry = of_whole;
-        }
+        let ledger = put_before(&whole.ledger, &self.lists.ledger);
+        let marks = put_before(&whole.marks, &self.lists.marks);
         let lists = &held.lists;
         differ("ledger", lists.ledger.read(), &ledger)
+            .or_else(|| differ("marks", lists.marks.read(), &marks))
             .or_else(|| same("counts", &lists.counts, &whole.counts))
             .or_else(|| same("quality_sums", &lists.quality_sums, &whole.quality_sums))
             .or_else(|| same("value_sums", &lists.value_sums, &whole.value_sums))
@@ -97,6 +98,15 @@ impl Untouched {
                 )
             })
     }
+}
+
+/// The whole scan's list of its gates, and behind it what stood in the longer list at opening.
+fn put_before<T>(whole: &LentList<T>, at_opening: &LentList<T>) -> Vec<T>
+where
+    T: Copy + PartialEq + Debug,
+{
+    let rest = &at_opening.read()[whole.read().len()..];
+    [whole.read(), rest].concat()
 }
 
 fn same<T>(name: &str, swept: &LentList<T>, whole: &LentList<T>) -> Option<String>

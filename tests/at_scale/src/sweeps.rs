@@ -1,9 +1,9 @@
-//! Sweeps: after every call the answer, the state and all six lists by the library and by the plain program; at the end the whole scan of
-//! the rays taken.
+//! Sweeps: after every call the answer, the state and all lists by the library and by the plain program; at the end the whole scan of the
+//! rays taken.
 
 use crate::handed_in::{scan_numbers, Named};
 use crate::outcome::{compare_answers, Answer, Outcome};
-use crate::six_lists::Lists;
+use crate::output_lists::{count_marked, Lengths, Lists};
 use crate::sweep_draw::Case;
 use crate::sweep_held::{by_library, by_plain_program, Held};
 use crate::sweep_state::{call_name, WHOLE_SCAN, WHOLE_SCAN_SO_FAR};
@@ -22,6 +22,7 @@ struct Run<'a> {
     untouched: Option<Untouched>,
     answers: Vec<Answer>,
     gates: usize,
+    marked: usize,
     handed_in: Vec<Named>,
 }
 
@@ -40,6 +41,7 @@ impl<'a> Run<'a> {
             untouched: None,
             answers: Vec::new(),
             gates: 0,
+            marked: 0,
             handed_in: Vec::new(),
         }
     }
@@ -71,6 +73,15 @@ impl<'a> Run<'a> {
                 self.handed_in.extend(own);
             }
         }
+    }
+
+    /// Counts the gates of rays that were taken, and how many of them are marked.
+    fn count_gates(&mut self, lengths: &Lengths, handed: Sweep) {
+        let gate_before = |taken: i64| (taken * handed.head.gates) as usize;
+        let taken = gate_before(handed.taken)..gate_before(self.plain.state.taken);
+        let marks = &self.plain.lists.marks.first(lengths.marks)[taken];
+        self.gates += marks.len();
+        self.marked += count_marked(marks);
     }
 
     /// Follows a sweep that is handed on untouched.
@@ -105,8 +116,8 @@ impl<'a> Run<'a> {
             .or_else(|| self.library.compare(&self.plain, "the plain program"))
             .or_else(unchanged);
         if number == 0 {
-            if let Step::Take(group, _) = step {
-                self.gates += group.values.len();
+            if let Step::Take(_, lengths) = step {
+                self.count_gates(lengths, before.state);
             }
             self.follow(step, before.state);
         }
@@ -148,6 +159,7 @@ pub fn compare(case: &Case, tables: &Tables) -> Outcome {
     Outcome {
         answers: run.answers,
         gates: run.gates,
+        marked: Some(run.marked),
         handed_in: run.handed_in,
         difference,
     }

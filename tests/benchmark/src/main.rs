@@ -2,7 +2,8 @@
 //! PROJ.
 //!
 //! Every round works the whole scan and the plain program, for the scan of the full size the sweeps, every tenth the single calls too, and
-//! the best round of each counts. Nothing is asserted about speed; before anything is timed, the ledgers and cells have to be the same.
+//! the best round of each counts. Nothing is asserted about speed; before anything is timed, the ledgers, marks and cells have to be the
+//! same.
 
 mod measure;
 mod pipeline;

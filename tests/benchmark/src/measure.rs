@@ -41,19 +41,23 @@ fn whole_scan(scene: &Scene, lists: &mut Remapped) -> u32 {
     }
 }
 
-/// The ledger alone, gate by gate.
-fn single_calls(scene: &Scene, ledger: &mut [u32]) -> u32 {
+/// Ledger and marks alone, gate by gate.
+fn single_calls(scene: &Scene, lists: &mut Remapped) -> u32 {
     let head = &scene.head;
-    let rays = ledger.chunks_exact_mut(head.gates as usize);
-    for (&azimuth, entries) in scene.azimuths.iter().zip(rays) {
-        for (gate, entry) in (0..).zip(entries) {
+    let ledger = lists.ledger.chunks_exact_mut(head.gates as usize);
+    let marks = lists.marks.chunks_exact_mut(head.gates as usize);
+    for ((&azimuth, ledger), marks) in scene.azimuths.iter().zip(ledger).zip(marks) {
+        for ((gate, entry), mark) in (0..).zip(ledger).zip(marks) {
             match place(
                 head.site,
                 head.grid,
                 azimuth,
                 head.first + gate * head.spacing,
             ) {
-                Ok(placement) => *entry = placement.cell.unwrap_or(OUTSIDE),
+                Ok(placement) => {
+                    *entry = placement.cell.unwrap_or(OUTSIDE);
+                    *mark = placement.mark.into();
+                }
                 Err(refusal) => return refusal.number,
             }
         }
@@ -81,9 +85,10 @@ fn same<T: PartialEq + Display>(name: &str, one: &[T], other: &[T], who: &str) {
     }
 }
 
-/// Ends the run where the six lists differ.
+/// Ends the run where any of the lists differ.
 fn same_lists(whole: &Remapped, other: &Remapped, who: &str) {
     same("ledger", &whole.ledger, &other.ledger, who);
+    same("mark", &whole.marks, &other.marks, who);
     same("count", &whole.counts, &other.counts, who);
     same("quality sum", &whole.quality_sums, &other.quality_sums, who);
     same("value sum", &whole.value_sums, &other.value_sums, who);
@@ -106,18 +111,18 @@ fn check_sweeps(scene: &Scene, whole: &Remapped) {
 
 /// Works all of them once and compares what they give; answers the lists.
 fn checked(tables: &Tables, scene: &Scene) -> Remapped {
-    let (mut whole, mut plain) = (lists_of(scene), lists_of(scene));
-    let mut ledger = vec![1; whole.ledger.len()];
+    let [mut whole, mut single, mut plain] = [(); 3].map(|()| lists_of(scene));
     let answers = [
         whole_scan(scene, &mut whole),
-        single_calls(scene, &mut ledger),
+        single_calls(scene, &mut single),
         plain_scan(tables, scene, &mut plain),
     ];
     if answers != [0; 3] {
         println!("refused: the answers are {answers:?}");
         exit(1);
     }
-    same("ledger", &whole.ledger, &ledger, "single calls");
+    same("ledger", &whole.ledger, &single.ledger, "single calls");
+    same("mark", &whole.marks, &single.marks, "single calls");
     same_lists(&whole, &plain, "the plain program");
     if is_swept(scene) {
         check_sweeps(scene, &whole);
@@ -142,7 +147,7 @@ fn round(tables: &Tables, scene: &Scene, lists: &mut [Remapped; 2], with_single:
     };
     let plain = timed(|| plain_scan(tables, scene, second));
     let single = match with_single {
-        true => timed(|| single_calls(scene, &mut second.ledger)),
+        true => timed(|| single_calls(scene, second)),
         false => f64::INFINITY,
     };
     [whole, single, plain, ray_by_ray, in_groups]

@@ -15,6 +15,7 @@ pub fn whole_scan(tables: &Tables, scene: &Scene, lists: &mut Remapped) -> Resul
     };
     let mut lent = Lent {
         ledger: &mut lists.ledger,
+        marks: &mut lists.marks,
         counts: &mut lists.counts,
         quality_sums: &mut lists.quality_sums,
         value_sums: &mut lists.value_sums,

@@ -24,11 +24,12 @@ impl Scene {
     }
 }
 
-/// Six lists of the scene's sizes, with something else in them than it gives.
+/// Lists of the scene's sizes, with something else in them than it gives.
 pub fn lists_of(scene: &Scene) -> Remapped {
     let (gates, cells) = (scene.head.all_gates(), scene.head.all_cells());
     Remapped {
         ledger: vec![1; gates],
+        marks: vec![2; gates],
         counts: vec![1; cells],
         quality_sums: vec![1; cells],
         value_sums: vec![1; cells],

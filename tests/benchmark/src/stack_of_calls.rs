@@ -3,7 +3,8 @@
 use std::hint::black_box;
 
 use uldrevin::{
-    place, read_record_into, record_head, remap_into, sine, write_record_into, SumLists, Sweep,
+    place, read_record_into, record_head, remap_into, sine, write_record_into, EntryLists,
+    SumLists, Sweep,
 };
 
 use crate::scene::{hrap, lists_of, Scene};
@@ -40,6 +41,10 @@ fn print_records() {
 /// All rays are taken at once.
 fn print_sweep(scene: &Scene) {
     let (head, mut lists) = (scene.head, lists_of(scene));
+    let entries = &mut EntryLists {
+        ledger: &mut lists.ledger,
+        marks: &mut lists.marks,
+    };
     let sums = &mut SumLists {
         counts: &mut lists.counts,
         quality_sums: &mut lists.quality_sums,
@@ -49,7 +54,7 @@ fn print_sweep(scene: &Scene) {
     let mut sweep = Sweep::open(head, sums).expect(good);
     let opened = used(|| sweep = Sweep::open(head, sums).expect(good));
     let rays = scene.gate_lists();
-    let taken = used(|| sweep = sweep.take(rays, &mut lists.ledger, sums).expect(good));
+    let taken = used(|| sweep = sweep.take(rays, entries, sums).expect(good));
     let (means, cell_qualities) = (&mut lists.means, &mut lists.cell_qualities);
     let closed = used(|| sweep.close(sums, means, cell_qualities).expect(good));
     print_row("Sweep::open", opened);

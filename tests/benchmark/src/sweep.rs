@@ -1,6 +1,6 @@
 //! A scan fed to a sweep.
 
-use uldrevin::{GateLists, Refusal, Remapped, SumLists, Sweep};
+use uldrevin::{EntryLists, GateLists, Refusal, Remapped, SumLists, Sweep};
 
 use crate::scene::Scene;
 
@@ -21,6 +21,10 @@ fn groups(scene: &Scene, rays: usize) -> impl Iterator<Item = GateLists<'_>> {
 }
 
 fn sweep(scene: &Scene, rays: usize, lists: &mut Remapped) -> Result<Sweep, Refusal> {
+    let entries = &mut EntryLists {
+        ledger: &mut lists.ledger,
+        marks: &mut lists.marks,
+    };
     let sums = &mut SumLists {
         counts: &mut lists.counts,
         quality_sums: &mut lists.quality_sums,
@@ -28,7 +32,7 @@ fn sweep(scene: &Scene, rays: usize, lists: &mut Remapped) -> Result<Sweep, Refu
     };
     let mut sweep = Sweep::open(scene.head, sums)?;
     for group in groups(scene, rays) {
-        sweep = sweep.take(group, &mut lists.ledger, sums)?;
+        sweep = sweep.take(group, entries, sums)?;
     }
     sweep.close(sums, &mut lists.means, &mut lists.cell_qualities)
 }

@@ -1,4 +1,4 @@
-//! Document 01, "Projection" from "Arc" on: a gate to its position and its cell.
+//! Document 01, "Projection" from "Arc" on, and document 02, T-02: a gate to its position, its cell and its mark.
 
 use crate::sine::{by_q, Tables, Q};
 use std::ops::RangeInclusive;
@@ -20,6 +20,9 @@ pub const RADOLAN_KIND: i64 = 1;
 pub const HRAP_KIND: i64 = 2;
 pub const HRAP_SIDE: i64 = 476_250;
 
+/// T-02: a gate is marked less than this behind an edge line, and at most this before one.
+pub const MARKED_WITHIN: i64 = 50;
+
 #[derive(Clone, Copy, Debug, PartialEq, Eq)]
 pub struct Site {
     pub latitude: i64,
@@ -39,12 +42,13 @@ pub struct Grid {
     pub rows: i64,
 }
 
-/// A position, and its cell where it has one.
+/// A position, its cell where it has one, and its mark, which it has inside and outside.
 #[derive(Clone, Copy, Debug, PartialEq, Eq)]
 pub struct Placement {
     pub x: i64,
     pub y: i64,
     pub cell: Option<u32>,
+    pub mark: bool,
 }
 
 /// Refusal 4.
@@ -120,6 +124,18 @@ impl Window {
         let row = (y - self.corner_y).div_euclid(self.side);
         let inside = (0..self.columns).contains(&column) && (0..self.rows).contains(&row);
         inside.then_some((row * self.columns + column) as u32)
+    }
+
+    /// A coordinate less the corner's is near an edge line. The lines go on beyond the grid, on both sides.
+    #[inline(always)]
+    fn near_a_line(&self, from_corner: i64) -> bool {
+        let remainder = from_corner.rem_euclid(self.side);
+        remainder < MARKED_WITHIN || remainder >= self.side - MARKED_WITHIN
+    }
+
+    #[inline(always)]
+    pub(crate) fn mark(&self, (x, y): (i64, i64)) -> bool {
+        self.near_a_line(x - self.corner_x) || self.near_a_line(y - self.corner_y)
     }
 }
 
@@ -198,6 +214,7 @@ fn place_checked(
         x,
         y,
         cell: window.cell((x, y)),
+        mark: window.mark((x, y)),
     }
 }
 
@@ -289,6 +306,52 @@ mod tests {
         assert_eq!(window.cell((9_999, 0)), Some(0));
         assert_eq!(window.cell((10_000, 0)), Some(1));
         assert_eq!(window.cell((0, 10_000)), None);
+    }
+
+    /// The mark of a position with these remainders, so many cells from the corner on both axes.
+    fn marked(side: i64, cells: i64, x: i64, y: i64) -> bool {
+        let window = Window {
+            corner_x: 7,
+            corner_y: -11,
+            side,
+            columns: 2,
+            rows: 1,
+        };
+        window.mark((7 + cells * side + x, -11 + cells * side + y))
+    }
+
+    #[test]
+    fn marks_near_edge_lines() {
+        for side in [10_000, HRAP_SIDE, 10_000_000] {
+            let middle = side / 2;
+            let remainders = [
+                (0, true),
+                (49, true),
+                (50, false),
+                (side - 51, false),
+                (side - 50, true),
+                (side - 1, true),
+            ];
+            for (remainder, mark) in remainders {
+                for cells in [-2, -1, 0, 1, 2] {
+                    assert_eq!(marked(side, cells, remainder, middle), mark);
+                    assert_eq!(marked(side, cells, middle, remainder), mark);
+                    assert!(marked(side, cells, remainder, 0));
+                }
+            }
+        }
+    }
+
+    #[test]
+    fn gates_inside_and_outside_have_a_mark() {
+        let inside_and_mark = |x| {
+            let placement = placed(510_000, 100_000, Grid { x, ..RASTER }).unwrap();
+            (placement.cell.is_some(), placement.mark)
+        };
+        assert_eq!(inside_and_mark(-52_346_220), (true, false));
+        assert_eq!(inside_and_mark(0), (true, true));
+        assert_eq!(inside_and_mark(100_000), (false, true));
+        assert_eq!(inside_and_mark(130_000), (false, false));
     }
 
     #[test]

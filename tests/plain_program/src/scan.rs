@@ -1,4 +1,4 @@
-//! Document 01, "The scan" and "Ledger and cells": a whole scan to its ledger, sums and published cells.
+//! Document 01, "The scan" and "Ledger and cells", and T-02: a whole scan to its ledger, marks, sums and published cells.
 //!
 //! What the site decides is worked once a scan, what the azimuth decides once a ray, and what the range decides once a gate number.
 
@@ -52,11 +52,19 @@ pub struct Given<'a> {
 #[derive(Debug)]
 pub struct Lent<'a> {
     pub ledger: &'a mut [u32],
+    pub marks: &'a mut [u8],
     pub counts: &'a mut [u32],
     pub quality_sums: &'a mut [u32],
     pub value_sums: &'a mut [u64],
     pub means: &'a mut [u16],
     pub cell_qualities: &'a mut [u8],
+}
+
+/// The lent lists of gates: a ledger entry a gate, and a mark a gate, 1 or 0.
+#[derive(Debug)]
+pub struct Entries<'a> {
+    pub ledger: &'a mut [u32],
+    pub marks: &'a mut [u8],
 }
 
 /// The sums of the cells.
@@ -110,11 +118,12 @@ pub(crate) fn check_gate_lengths(
     exact.then_some(()).ok_or(6)
 }
 
-/// Refusal 6 for the ledger and the cell lists.
+/// Refusal 6 for the ledger, the marks and the cell lists.
 fn check_lent_lengths(head: &Head, lent: &Lent) -> Result<(), u32> {
     let (_, gates) = gate_lengths(head);
     let cells = cell_length(head.grid);
     let exact = lent.ledger.len() == gates
+        && lent.marks.len() == gates
         && lent.counts.len() == cells
         && lent.quality_sums.len() == cells
         && lent.value_sums.len() == cells
@@ -150,34 +159,38 @@ fn check(head: &Head, given: Given, lent: &Lent) -> Result<(), u32> {
 }
 
 #[inline(always)] // once for each kind of grid, with the kind's own constants
-fn fill_ledger(
+fn fill_entries(
     tables: &Tables,
     head: &Head,
     sphere: &Sphere,
     window: &Window,
     azimuths: &[u32],
-    ledger: &mut [u32],
+    entries: Entries,
 ) {
     let survey = Survey::new(tables, sphere, head.site);
     let arcs: Vec<_> = (0..head.gates)
         .map(|gate| arc(sphere, head.first + gate * head.spacing))
         .collect();
-    for (&azimuth, entries) in azimuths.iter().zip(ledger.chunks_exact_mut(arcs.len())) {
+    let ledger = entries.ledger.chunks_exact_mut(arcs.len());
+    let marks = entries.marks.chunks_exact_mut(arcs.len());
+    for ((&azimuth, ledger), marks) in azimuths.iter().zip(ledger).zip(marks) {
         let ray = pair(tables, i64::from(azimuth));
-        for (&arc, entry) in arcs.iter().zip(entries) {
-            *entry = window.cell(survey.position(ray, arc)).unwrap_or(OUTSIDE);
+        for ((&arc, entry), mark) in arcs.iter().zip(ledger).zip(marks) {
+            let position = survey.position(ray, arc);
+            *entry = window.cell(position).unwrap_or(OUTSIDE);
+            *mark = u8::from(window.mark(position));
         }
     }
 }
 
-/// The entries of the gates of rays with these azimuths.
-pub(crate) fn ledger_of(tables: &Tables, head: &Head, azimuths: &[u32], ledger: &mut [u32]) {
+/// The ledger entries and the marks of the gates, measured or not, of rays with these azimuths.
+pub(crate) fn entries_of(tables: &Tables, head: &Head, azimuths: &[u32], entries: Entries) {
     if head.grid.kind == RADOLAN_KIND {
         let window = Window::of_radolan(head.grid);
-        fill_ledger(tables, head, &RADOLAN, &window, azimuths, ledger);
+        fill_entries(tables, head, &RADOLAN, &window, azimuths, entries);
     } else {
         let window = Window::of_hrap(head.grid);
-        fill_ledger(tables, head, &HRAP, &window, azimuths, ledger);
+        fill_entries(tables, head, &HRAP, &window, azimuths, entries);
     }
 }
 
@@ -222,7 +235,11 @@ pub(crate) fn publish(weighting: i64, sums: Sums, means: &mut [u16], cell_qualit
 /// Remaps the scan into the lent lists, or answers the lowest refusal of 1 to 8 and leaves the lists alone.
 pub fn remap(tables: &Tables, head: &Head, given: Given, lent: &mut Lent) -> Result<(), u32> {
     check(head, given, lent)?;
-    ledger_of(tables, head, given.azimuths, lent.ledger);
+    let entries = Entries {
+        ledger: lent.ledger,
+        marks: lent.marks,
+    };
+    entries_of(tables, head, given.azimuths, entries);
     tally(head.weighting, given, lent);
     let sums = Sums {
         counts: lent.counts,
@@ -243,12 +260,13 @@ mod tests {
         ..EXAMPLE
     };
 
-    /// Answer, mean, cell quality and count of the cell that has both gates.
-    fn cell_of(
+    /// Answer, mean, cell quality and count of the cell that has both gates, with the marks in a list of the caller.
+    fn cell_and_marks(
         head: &Head,
         azimuths: &[u32],
         values: [u16; 2],
         qualities: [u8; 2],
+        marks: &mut [u8],
     ) -> (Result<(), u32>, u16, u8, u32) {
         let (mut ledger, mut counts, mut quality_sums) = ([9; 2], [9; 2], [9; 2]);
         let (mut value_sums, mut means, mut cell_qualities) = ([9; 2], [9; 2], [9; 2]);
@@ -259,6 +277,7 @@ mod tests {
         };
         let mut lent = Lent {
             ledger: &mut ledger,
+            marks,
             counts: &mut counts,
             quality_sums: &mut quality_sums,
             value_sums: &mut value_sums,
@@ -267,6 +286,15 @@ mod tests {
         };
         let answer = remap(&Tables::new(), head, given, &mut lent);
         (answer, means[1], cell_qualities[1], counts[1])
+    }
+
+    fn cell_of(
+        head: &Head,
+        azimuths: &[u32],
+        values: [u16; 2],
+        qualities: [u8; 2],
+    ) -> (Result<(), u32>, u16, u8, u32) {
+        cell_and_marks(head, azimuths, values, qualities, &mut [9; 2])
     }
 
     #[test]
@@ -338,6 +366,30 @@ mod tests {
                 cell_of(&EXAMPLE, &[0], [1, 7], [90, 10])
             );
         }
+    }
+
+    /// Of gates that are not measured, east of the site: X is 0, on an edge line, and 100,000.
+    fn marks_of<const N: usize>(head: Head, azimuth: u32) -> (Result<(), u32>, [u8; N]) {
+        let mut marks = [9; N];
+        let (answer, ..) = cell_and_marks(&head, &[azimuth], [NOT_MEASURED; 2], [0; 2], &mut marks);
+        (answer, marks)
+    }
+
+    #[test]
+    fn marks() {
+        assert_eq!(marks_of(EXAMPLE, 900_000), (Ok(()), [1, 0]));
+        let outside = Head {
+            grid: Grid {
+                columns: 1,
+                rows: 2,
+                ..EXAMPLE.grid
+            },
+            ..EXAMPLE
+        };
+        assert_eq!(marks_of(outside, 900_000), (Ok(()), [1, 0]));
+        assert_eq!(marks_of(EXAMPLE, 900_000), (Err(6), [9]));
+        assert_eq!(marks_of(EXAMPLE, 900_000), (Err(6), [9; 3]));
+        assert_eq!(marks_of(EXAMPLE, 3_600_000), (Err(7), [9; 2]));
     }
 
     #[test]

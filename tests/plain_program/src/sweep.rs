@@ -1,12 +1,12 @@
-//! Document 02, T-01: a scan that is opened, fed with one ray or several at a time, and closed.
+//! Document 02, T-01: a scan that is opened, fed with one ray or several at a time, and closed. T-02's marks go with the ledger.
 //!
 //! Each operation takes the state by value and gives the new one. The totals of a group are worked out in wide numbers, and nothing is
 //! written before every refusal has been ruled out.
 
 use crate::placement::{Grid, HRAP_KIND, HRAP_SIDE};
 use crate::scan::{
-    cell_length, check_contents, check_head, ledger_of, publish, Given, Head, Sums, BY_QUALITY,
-    NOT_MEASURED, NO_ECHO, OUTSIDE, PLAIN,
+    cell_length, check_contents, check_head, entries_of, publish, Entries, Given, Head, Sums,
+    BY_QUALITY, NOT_MEASURED, NO_ECHO, OUTSIDE, PLAIN,
 };
 use crate::sine::Tables;
 use std::collections::BTreeMap;
@@ -78,6 +78,18 @@ fn check_sums(grid: Grid, sums: Sums) -> Result<(), u32> {
     exact.then_some(()).ok_or(6)
 }
 
+/// The ledger entries and the marks of a group's gates.
+fn group_entries(tables: &Tables, head: &Head, given: Given) -> (Vec<u32>, Vec<u8>) {
+    let gates = given.values.len();
+    let (mut ledger, mut marks) = (vec![OUTSIDE; gates], vec![0; gates]);
+    let entries = Entries {
+        ledger: &mut ledger,
+        marks: &mut marks,
+    };
+    entries_of(tables, head, given.azimuths, entries);
+    (ledger, marks)
+}
+
 /// What a group adds to one cell.
 #[derive(Clone, Copy, Default)]
 struct Added {
@@ -146,12 +158,13 @@ impl Sweep {
     }
 
     /// Refusal 6 for a group and what it is written to.
-    fn check_group(&self, given: Given, ledger: usize, sums: Sums) -> Result<(), u32> {
+    fn check_group(&self, given: Given, lent: &Entries, sums: Sums) -> Result<(), u32> {
         let (rays, gates) = (given.azimuths.len(), self.head.gates as usize);
         let exact = rays >= 1
             && given.values.len() == rays * gates
             && given.qualities.len() == rays * gates
-            && ledger == self.head.rays as usize * gates;
+            && lent.ledger.len() == self.head.rays as usize * gates
+            && lent.marks.len() == self.head.rays as usize * gates;
         if !exact {
             return Err(6);
         }
@@ -163,15 +176,14 @@ impl Sweep {
         self,
         tables: &Tables,
         given: Given,
-        ledger: &mut [u32],
+        lent: Entries,
         sums: LentSums,
     ) -> Result<Sweep, u32> {
         self.check_numbers(given.azimuths.len())?;
-        self.check_group(given, ledger.len(), sums.read())?;
+        self.check_group(given, &lent, sums.read())?;
         check_contents(given.azimuths.iter().copied(), given.qualities)?;
-        let mut entries = vec![OUTSIDE; given.values.len()];
-        ledger_of(tables, &self.head, given.azimuths, &mut entries);
-        let added = added_by(self.head.weighting, &entries, given);
+        let (ledger, marks) = group_entries(tables, &self.head, given);
+        let added = added_by(self.head.weighting, &ledger, given);
         let grown: Vec<_> = added
             .into_iter()
             .map(|(cell, added)| Ok((cell, grown(sums.read(), cell, added)?)))
@@ -182,7 +194,8 @@ impl Sweep {
             sums.value_sums[cell] = value;
         }
         let first = (self.taken * self.head.gates) as usize;
-        ledger[first..][..entries.len()].copy_from_slice(&entries);
+        lent.ledger[first..][..ledger.len()].copy_from_slice(&ledger);
+        lent.marks[first..][..marks.len()].copy_from_slice(&marks);
         Ok(Sweep {
             head: in_plain_form(self.head),
             taken: self.taken + given.azimuths.len() as i64,
@@ -227,6 +240,7 @@ mod tests {
     #[derive(Clone, Debug, PartialEq)]
     struct Lists {
         ledger: [u32; 4],
+        marks: [u8; 4],
         counts: [u32; 2],
         quality_sums: [u32; 2],
         value_sums: [u64; 2],
@@ -236,6 +250,7 @@ mod tests {
 
     const BEFORE: Lists = Lists {
         ledger: [9; 4],
+        marks: [9; 4],
         counts: [9; 2],
         quality_sums: [9; 2],
         value_sums: [9; 2],
@@ -258,7 +273,11 @@ mod tests {
             quality_sums: &mut lists.quality_sums,
             value_sums: &mut lists.value_sums,
         };
-        sweep.take(&Tables::new(), given, &mut lists.ledger, sums)
+        let entries = Entries {
+            ledger: &mut lists.ledger,
+            marks: &mut lists.marks,
+        };
+        sweep.take(&Tables::new(), given, entries, sums)
     }
 
     fn close(sweep: Sweep, lists: &mut Lists) -> Result<Sweep, u32> {
@@ -270,14 +289,15 @@ mod tests {
         sweep.close(sums, &mut lists.means, &mut lists.cell_qualities)
     }
 
+    /// East of the site. X is 0, on an edge line, and 100,000.
     const RAY: Given = Given {
-        azimuths: &[0],
+        azimuths: &[900_000],
         values: &[1, 7],
         qualities: &[90, 10],
     };
 
     const BOTH: Given = Given {
-        azimuths: &[0, 0],
+        azimuths: &[900_000, 900_000],
         values: &[1, 7, 1, 7],
         qualities: &[90, 10, 90, 10],
     };
@@ -301,11 +321,13 @@ mod tests {
         let (sweep, mut lists) = half();
         assert_eq!((sweep.taken, sweep.closed), (1, OPEN));
         assert_eq!(lists.ledger, [1, 1, 9, 9]);
+        assert_eq!(lists.marks, [1, 0, 9, 9]);
         assert_eq!(lists.means, [9; 2]);
         let sweep = take(sweep, RAY, &mut lists).unwrap();
         let closed = close(sweep, &mut lists).unwrap();
         assert_eq!((closed.taken, closed.closed), (2, CLOSED));
         assert_eq!(lists.ledger, [1; 4]);
+        assert_eq!(lists.marks, [1, 0, 1, 0]);
         assert_eq!((lists.counts, lists.quality_sums), ([0, 4], [0, 200]));
         assert_eq!(lists.value_sums, [0, 320]);
         assert_eq!((lists.means, lists.cell_qualities), ([NO_MEAN, 1], [0, 50]));
@@ -356,6 +378,28 @@ mod tests {
             ..bad
         };
         assert_eq!(refused(sweep, bad_quality), [8, 18]);
+    }
+
+    /// Ledger and marks are those of all rays announced.
+    #[test]
+    fn lengths_of_the_entries() {
+        let answer = |ledger: &mut [u32], marks: &mut [u8]| {
+            let (sweep, mut lists) = half();
+            let sums = LentSums {
+                counts: &mut lists.counts,
+                quality_sums: &mut lists.quality_sums,
+                value_sums: &mut lists.value_sums,
+            };
+            let taken = sweep.take(&Tables::new(), RAY, Entries { ledger, marks }, sums);
+            taken.map(|sweep| sweep.taken)
+        };
+        assert_eq!(answer(&mut [9; 4], &mut [9; 4]), Ok(2));
+        for length in [0, 2, 3, 5] {
+            let (mut ledger, mut marks) = (vec![9; length], vec![9; length]);
+            assert_eq!(answer(&mut ledger, &mut [9; 4]), Err(6));
+            assert_eq!(answer(&mut [9; 4], &mut marks), Err(6));
+            assert!(ledger.iter().all(|&entry| entry == 9) && marks.iter().all(|&mark| mark == 9));
+        }
     }
 
     #[test]

@@ -11,14 +11,14 @@ use Rattle.remap.proofs.remap.Statement.{statement}
 use Rattle.remap.proofs.remap.Tie as tie
 
 abbrev given : tie.After-scan-refusal → tie.Start
-given c = c .before .before .before .before .before .before .before .before .before .before .before .before .before
+given c = c .before .before .before .before .before .before .before .before .before .before .before .before .before .before
 
 -- the refusal of the scan that came in
 abbrev number : tie.Start → ℕ
 number s =
     let a = s .args in
     refusalFor (scanHeld (a .head) (a .azimuths) (a .values) (a .qualities))
-    (listsHeld (a .ledger) (a .counts) (a .quality-sums) (a .value-sums) (a .means) (a .cell-qualities))
+    (listsHeld (a .ledger) (a .marks) (a .counts) (a .quality-sums) (a .value-sums) (a .means) (a .cell-qualities))
 
 is-refusal : (c : tie.After-scan-refusal) → c .scan-refusal .result ≡ number (given c)
 unfolding refusalFor scanRefusal listsExact
@@ -50,7 +50,7 @@ unfolding remapAnswer
 returns c = record { the-answer = rw (is-refusal (c .before)) (is-refused _ _ (refused c)); the-lists = kept _ _ _ (refused c) }
 
 accepted-remap-requires : tie.Need-accepted-remap-requires
-accepted-remap-requires c κs = accepted (c .before .before .before .before .before .before)
+accepted-remap-requires c κs = accepted (c .before .before .before .before .before .before .before)
 
 same-length : tie.Need-same-length
 same-length c = search needs
@@ -70,11 +70,14 @@ same-length-5 c = search needs
 same-length-6 : tie.Need-same-length-6
 same-length-6 c = search needs
 
+same-length-7 : tie.Need-same-length-7
+same-length-7 c = search needs
+
 returns-2 : tie.Need-returns-2
 unfolding remapAnswer
 returns-2 c =
-    let remapped = c .before .before .before .before .before .before .before .before .before .before .before .before in
-    let zero = accepted (remapped .before .before .before .before .before .before .before) in
+    let remapped = c .before .before .before .before .before .before .before .before .before .before .before .before .before .before in
+    let zero = accepted (remapped .before .before .before .before .before .before .before .before) in
     record { the-answer = is-given zero refl; the-lists = filled _ zero (remapped .accepted-remap .ensures) }
 
 pub remap-spec : {M : Type 1} → statement M
@@ -93,4 +96,5 @@ remap-spec =
     same-length-4
     same-length-5
     same-length-6
+    same-length-7
     returns-2)

@@ -34,9 +34,13 @@ gates-of-requires c κs = search needs
 
 returns-4 : tie.Need-returns-4
 unfolding groupAccepted
-returns-4 c = rw (ne-eqb _ _ (c .before .before .before .before .before .before .if1 .left), exact-length (c .before .before .before .before .if2 .left) refl, exact-length (c .before .before .if3 .left) refl, c .before .gates-of .ensures)
+returns-4 c = rw (ne-eqb _ _ (c .before .before .before .before .before .before .before .if1 .left), exact-length (c .before .before .before .before .before .if2 .left) refl, exact-length (c .before .before .before .if3 .left) refl, other-length (c .if4 .taken) (c .before .before .gates-of .ensures))
+
+returns-5 : tie.Need-returns-5
+unfolding groupAccepted
+returns-5 c = rw (ne-eqb _ _ (c .before .before .before .before .before .before .before .before .if1 .left), exact-length (c .before .before .before .before .before .before .if2 .left) refl, exact-length (c .before .before .before .before .if3 .left) refl, exact-length (c .before .if4 .left) (c .before .before .before .gates-of .ensures), c .before .before .before .gates-of .ensures)
 
 pub group-accepted-spec : {M : Type 1} → statement M
 group-accepted-spec =
     tie.close
-    (tie.spec cast-gates mul-gates returns returns-2 returns-3 gates-of-requires returns-4)
+    (tie.spec cast-gates mul-gates returns returns-2 returns-3 gates-of-requires returns-4 returns-5)

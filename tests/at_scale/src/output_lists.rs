@@ -1,4 +1,4 @@
-//! The six lists that a scan or a sweep writes, lent: a ledger entry a gate, the rest a number a cell.
+//! The lists that a scan or a sweep writes, lent: a ledger entry and a mark a gate, the rest a number a cell.
 
 use crate::draw::Draw;
 use crate::lent_list::LentList;
@@ -7,6 +7,7 @@ use crate::lent_list::LentList;
 #[derive(Clone, Copy, Debug)]
 pub struct Lengths {
     pub ledger: usize,
+    pub marks: usize,
     pub counts: usize,
     pub quality_sums: usize,
     pub value_sums: usize,
@@ -18,6 +19,7 @@ impl Lengths {
     pub fn exact(gates: usize, cells: usize) -> Lengths {
         Lengths {
             ledger: gates,
+            marks: gates,
             counts: cells,
             quality_sums: cells,
             value_sums: cells,
@@ -28,21 +30,27 @@ impl Lengths {
 
     /// Spoils one length.
     pub fn spoil(&mut self, draw: &mut Draw) {
-        let length = match draw.below(6) {
+        let length = match draw.below(7) {
             0 => &mut self.ledger,
-            1 => &mut self.counts,
-            2 => &mut self.quality_sums,
-            3 => &mut self.value_sums,
-            4 => &mut self.means,
+            1 => &mut self.marks,
+            2 => &mut self.counts,
+            3 => &mut self.quality_sums,
+            4 => &mut self.value_sums,
+            5 => &mut self.means,
             _ => &mut self.cell_qualities,
         };
         *length = draw.wrong_length(*length);
     }
 }
 
+pub fn count_marked(marks: &[u8]) -> usize {
+    marks.iter().filter(|&&mark| mark == 1).count()
+}
+
 #[derive(Clone)]
 pub struct Lists {
     pub ledger: LentList<u32>,
+    pub marks: LentList<u8>,
     pub counts: LentList<u32>,
     pub quality_sums: LentList<u32>,
     pub value_sums: LentList<u64>,
@@ -55,13 +63,15 @@ impl Lists {
     pub fn new(lengths: &Lengths, margin: usize, seed: u64) -> Lists {
         let draw = &mut Draw::new(seed);
         let low_half = |bits| bits as u32;
+        let low_byte = |bits| bits as u8;
         Lists {
             ledger: LentList::new(draw, margin, lengths.ledger, low_half),
+            marks: LentList::new(draw, margin, lengths.marks, low_byte),
             counts: LentList::new(draw, margin, lengths.counts, low_half),
             quality_sums: LentList::new(draw, margin, lengths.quality_sums, low_half),
             value_sums: LentList::new(draw, margin, lengths.value_sums, |bits| bits),
             means: LentList::new(draw, margin, lengths.means, |bits| bits as u16),
-            cell_qualities: LentList::new(draw, margin, lengths.cell_qualities, |bits| bits as u8),
+            cell_qualities: LentList::new(draw, margin, lengths.cell_qualities, low_byte),
         }
     }
 
@@ -86,6 +96,7 @@ impl Lists {
         };
         self.ledger
             .compare("ledger", &other.ledger, name)
+            .or_else(|| self.marks.compare("marks", &other.marks, name))
             .or_else(cells)
     }
 }
