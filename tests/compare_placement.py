@@ -1,11 +1,10 @@
 """The placement of one gate by the compiled library against the second program's, and against the exact position."""
-from ctypes import byref, c_int64, c_uint8, c_uint32
 from fractions import Fraction
 
 import library
 import marked_gates
 from good_gates import AZIMUTHS, Gate, groups, position
-from lent_lists import changed_lines
+from lent_lists import MARGIN, changed_lines, earlier, filled_with, lending
 from lent_structs import grid_struct, site_struct
 from marked_gates import WANTED
 from second_program import placement
@@ -17,20 +16,23 @@ BOUND = 50  # centimetres, demand 3
 
 # The library's answers.
 
-# What the lent numbers hold before a call.
+# What the lent numbers hold before a call: cell, x, y and mark, each lent as a list of one number with margins.
 LENT = (2_863_311_531, -1_234_567_890_123_456_789, 987_654_321_987_654_321, 165)
+HELD = [filled_with(earlier(letter, 1), [number]) for letter, number in zip("IqqB", LENT)]
 
 
 def answer(compiled, gate):
-    """The library's answer, and where site or grid have been changed. After a refusal that left what was lent alone it is None."""
-    given = site_struct(gate), grid_struct(gate.grid)
+    """The library's answer, and what it changed besides. After a refusal that left the lent numbers alone they are None."""
+    given, lists = (site_struct(gate), grid_struct(gate.grid)), [held[:] for held in HELD]
     before = [bytes(struct) for struct in given]
-    numbers = [held(old) for held, old in zip((c_uint32, c_int64, c_int64, c_uint8), LENT)]
-    number = compiled.uldrevin_place(*given, gate.azimuth, gate.range, *map(byref, numbers))
-    lent = tuple(one.value for one in numbers)
+    number = compiled.uldrevin_place(*given, gate.azimuth, gate.range, *(lending(held)[0] for held in lists))
+    lent = tuple(held[MARGIN] for held in lists)
+    lines = changed_lines(("site", "grid"), given, before)
+    if lists != [filled_with(held, [one]) for held, one in zip(HELD, lent)]:
+        lines.append("what stands beside a lent number has been changed")
     if number != 0 and lent == LENT:
         lent = (None,) * len(LENT)
-    return Placed(number, *lent), changed_lines(("site", "grid"), given, before)
+    return Placed(number, *lent), lines
 
 
 def compared(compiled, gates):

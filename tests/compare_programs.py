@@ -163,8 +163,8 @@ def marks_in(text):
     """The marks in a ledger or in the text of a single gate."""
     first, *others = text.splitlines()
     if first.startswith((b"inside", b"outside")):
-        return [first[-1:]]
-    return [line[-1:] for line in others] if first.startswith(b"ray") else []
+        return [first.split()[-1]]
+    return [line.split()[-1] for line in others] if first.startswith(b"ray") else []
 
 
 def told(inputs):

@@ -34,10 +34,10 @@ LentInteger = Both (RefT ℤ) (RefT ℤ)
 abbrev pub LentStruct : Type 0
 LentStruct = Both (RefT (List ℤ)) (RefT (List ℤ))
 
-abbrev pub lentGate : LentNumber → LentInteger → LentInteger → Both PlacedGate PlacedGate
-lentGate cell x y = record {
-  entry = record { entry = now (cell .entry); x = now (x .entry); y = now (y .entry) };
-  exit = record { entry = now (cell .exit); x = now (x .exit); y = now (y .exit) };
+abbrev pub lentGate : LentNumber → LentInteger → LentInteger → LentNumber → Both PlacedGate PlacedGate
+lentGate cell x y mark = record {
+  entry = record { entry = now (cell .entry); x = now (x .entry); y = now (y .entry); mark = now (mark .entry) };
+  exit = record { entry = now (cell .exit); x = now (x .exit); y = now (y .exit); mark = now (mark .exit) };
 }
 
 abbrev pub lentHead : LentStruct → Both (List ℤ) (List ℤ)

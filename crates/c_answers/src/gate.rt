@@ -6,10 +6,16 @@ ghost use mathlib.Core.Path.{_≡_};
 ghost use Rattle.c_answers.specs.LentNumbers.{lentGate};
 
 // Writes a placement through the lent numbers.
-pub fn answer_gate(placement: Placement, cell: &mut u32, x: &mut i64, y: &mut i64) -> u32
+pub fn answer_gate(
+    placement: Placement,
+    cell: &mut u32,
+    x: &mut i64,
+    y: &mut i64,
+    mark: &mut u8,
+) -> u32
     ensures { λ r. ⌜ r ≡ numberIn (placementAnswer placement) ⌝ }
     ensures { λ r.
-        let gate = lentGate cell x y in
+        let gate = lentGate cell x y mark in
         ⌜ gate .exit ≡ leftBy (gate .entry) (placementAnswer placement) ⌝ }
 {
     match placement {
@@ -17,16 +23,23 @@ pub fn answer_gate(placement: Placement, cell: &mut u32, x: &mut i64, y: &mut i6
             cell: c,
             x: at_x,
             y: at_y,
+            mark: m,
         } => {
             *cell = c;
             *x = at_x;
             *y = at_y;
+            *mark = m as u8;
             0
         }
-        Placement::Outside { x: at_x, y: at_y } => {
+        Placement::Outside {
+            x: at_x,
+            y: at_y,
+            mark: m,
+        } => {
             *cell = 4294967295;
             *x = at_x;
             *y = at_y;
+            *mark = m as u8;
             0
         }
         Placement::Refused(number) => number,

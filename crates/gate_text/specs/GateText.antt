@@ -29,17 +29,18 @@ unfoldable pub usageLine : List ℕ
 usageLine =
     117 ∷ 115 ∷ 97 ∷ 103 ∷ 101 ∷ 58 ∷ 32 ∷ 103 ∷ 97 ∷ 116 ∷ 101 ∷ 32 ∷ 108 ∷ 97 ∷ 116 ∷ 105 ∷ 116 ∷ 117 ∷ 100 ∷ 101 ∷ 32 ∷ 108 ∷ 111 ∷ 110 ∷ 103 ∷ 105 ∷ 116 ∷ 117 ∷ 100 ∷ 101 ∷ 32 ∷ 97 ∷ 122 ∷ 105 ∷ 109 ∷ 117 ∷ 116 ∷ 104 ∷ 32 ∷ 114 ∷ 97 ∷ 110 ∷ 103 ∷ 101 ∷ 32 ∷ 40 ∷ 104 ∷ 114 ∷ 97 ∷ 112 ∷ 32 ∷ 105 ∷ 32 ∷ 106 ∷ 32 ∷ 124 ∷ 32 ∷ 114 ∷ 97 ∷ 100 ∷ 111 ∷ 108 ∷ 97 ∷ 110 ∷ 32 ∷ 120 ∷ 32 ∷ 121 ∷ 32 ∷ 115 ∷ 105 ∷ 100 ∷ 101 ∷ 41 ∷ 32 ∷ 99 ∷ 111 ∷ 108 ∷ 117 ∷ 109 ∷ 110 ∷ 115 ∷ 32 ∷ 114 ∷ 111 ∷ 119 ∷ 115 ∷ 10 ∷ []
 
--- inside X Y COLUMN ROW CELL, or outside X Y, or refused NUMBER
+-- inside X Y COLUMN ROW CELL MARK, or outside X Y MARK, or refused NUMBER
 unfoldable pub answerWords : ℕ → Placement → List (List ℕ)
-answerWords columns (Inside cell x y) =
+answerWords columns (Inside cell x y mark) =
     insideWord
     ∷ signedDecimalOf x
     ∷ signedDecimalOf y
     ∷ decimalOf (cell % columns)
     ∷ decimalOf (cell / columns)
     ∷ decimalOf cell
+    ∷ decimalOf (cond mark 1 0)
     ∷ []
-answerWords columns (Outside x y) = outsideWord ∷ signedDecimalOf x ∷ signedDecimalOf y ∷ []
+answerWords columns (Outside x y mark) = outsideWord ∷ signedDecimalOf x ∷ signedDecimalOf y ∷ decimalOf (cond mark 1 0) ∷ []
 answerWords columns (Refused number) = refusedWord ∷ decimalOf number ∷ []
 
 module _ (words : List ℕ) where

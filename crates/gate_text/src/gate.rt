@@ -69,15 +69,15 @@ fn put_answer(line: &mut [u8; 256], columns: u32, placement: Placement) -> usize
     ensures bounded { λ r. ⌜ r ≤ 256 ⌝ }
 {
     match placement {
-        Placement::Inside { cell, x, y } => answer_inside(line, columns, cell, x, y),
-        Placement::Outside { x, y } => answer_outside(line, x, y),
+        Placement::Inside { cell, x, y, mark } => answer_inside(line, columns, cell, x, y, mark),
+        Placement::Outside { x, y, mark } => answer_outside(line, x, y, mark),
         Placement::Refused(number) => put_refused(line, 0, number),
     }
 }
 
-fn answer_inside(line: &mut [u8; 256], columns: u32, cell: u32, x: i64, y: i64) -> usize
+fn answer_inside(line: &mut [u8; 256], columns: u32, cell: u32, x: i64, y: i64, mark: bool) -> usize
     requires { ⌜ 1 ≤ columns ⌝ }
-    ensures { λ r. ⌜ Stored (now (line .entry)) 0 (lineOf (answerWords columns (Inside cell x y))) r (now (line .exit)) ⌝ }
+    ensures { λ r. ⌜ Stored (now (line .entry)) 0 (lineOf (answerWords columns (Inside cell x y mark))) r (now (line .exit)) ⌝ }
     ensures bounded { λ r. ⌜ r ≤ 256 ⌝ }
 {
     let after_word = put_text(line, 0, b"inside", 32);
@@ -85,14 +85,16 @@ fn answer_inside(line: &mut [u8; 256], columns: u32, cell: u32, x: i64, y: i64) 
     let after_y = put_integer(line, after_x, y, 32);
     let after_column = put_number(line, after_y, (cell % columns) as u64, 32);
     let after_row = put_number(line, after_column, (cell / columns) as u64, 32);
-    put_number(line, after_row, cell as u64, 10)
+    let after_cell = put_number(line, after_row, cell as u64, 32);
+    put_number(line, after_cell, mark as u64, 10)
 }
 
-fn answer_outside(line: &mut [u8; 256], x: i64, y: i64) -> usize
-    ensures { λ r. ⌜ Stored (now (line .entry)) 0 (lineOf (answerWords 0 (Outside x y))) r (now (line .exit)) ⌝ }
+fn answer_outside(line: &mut [u8; 256], x: i64, y: i64, mark: bool) -> usize
+    ensures { λ r. ⌜ Stored (now (line .entry)) 0 (lineOf (answerWords 0 (Outside x y mark))) r (now (line .exit)) ⌝ }
     ensures bounded { λ r. ⌜ r ≤ 256 ⌝ }
 {
     let after_word = put_text(line, 0, b"outside", 32);
     let after_x = put_integer(line, after_word, x, 32);
-    put_integer(line, after_x, y, 10)
+    let after_y = put_integer(line, after_x, y, 32);
+    put_number(line, after_y, mark as u64, 10)
 }

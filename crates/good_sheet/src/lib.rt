@@ -19,6 +19,7 @@ pub fn good_sheet(bytes: &[u8], head: ScanHead, page: &mut [u8; 120000]) -> usiz
     let mut values = [0u16; 4096];
     let mut qualities = [0u8; 4096];
     let mut ledger = [0u32; 4096];
+    let mut marks = [0u8; 4096];
     let mut counts = [0u32; 1024];
     let mut quality_sums = [0u32; 1024];
     let mut value_sums = [0u64; 1024];
@@ -31,6 +32,7 @@ pub fn good_sheet(bytes: &[u8], head: ScanHead, page: &mut [u8; 120000]) -> usiz
         &mut values[..gates],
         &mut qualities[..gates],
         &mut ledger[..gates],
+        &mut marks[..gates],
         &mut counts[..cells],
         &mut quality_sums[..cells],
         &mut value_sums[..cells],

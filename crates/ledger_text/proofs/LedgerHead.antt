@@ -62,6 +62,6 @@ module _ (bytes : List ℕ) (k : ℕ) where
 -- what the record says of a gate, with a space behind each word, and where the gate lies
 pub placement-line : (front : List (List ℕ)) (columns : ℕ) (placement : Placement) → spaced front ++ lineOf (placementWords columns placement) ≡ lineOf (front ++ placementWords columns placement)
 unfolding placementWords
-placement-line front columns (Inside cell x y) = spaced-line front _ _
-placement-line front columns (Outside x y) = spaced-line front _ _
+placement-line front columns (Inside cell x y mark) = spaced-line front _ _
+placement-line front columns (Outside x y mark) = spaced-line front _ _
 placement-line front columns (Refused number) = spaced-line front _ _

@@ -17,7 +17,7 @@ use Rattle.limits.specs.Accepted.{azimuthAccepted}
 use Rattle.placement.specs.GateRefusal.{gateRefusal}
 use Rattle.grid.specs.Sphere.{sphereOf}
 use Rattle.grid.specs.Window.{windowOf}
-use Rattle.placement.specs.Located.{inWindow, located}
+use Rattle.placement.specs.Located.{inWindow, marked, located}
 use Rattle.refusal.proofs.RangeBounds.{range-bounds}
 use Rattle.scan_ledger.proofs.AcceptedLedger.{gate-accepted}
 use Rattle.record_layout.specs.RecordPlaces.{headIn, azimuthsIn}
@@ -28,11 +28,11 @@ use Rattle.ledger_text.specs.LedgerLine.{rayOf, gateOf, azimuthOf, range
 -- a place in a grid or outside it is no refusal
 located-never : (window : Window) (at : Position) (number : ℕ) → located window at ≡ Refused number → ⊥
 unfolding located
-located-never window at number e = go (inWindow window at) _ e
+located-never window at number e = go (marked window at) (inWindow window at) _ e
   where
-    go : (t : Bool) (cell : ℕ) → cond t (Inside cell (at .x) (at .y)) (Outside (at .x) (at .y)) ≡ Refused number → ⊥
-    go true cell f = let z : _≡_ {A = ℕ} 0 1 = cc in absurd (omega arith)
-    go false cell f = let z : _≡_ {A = ℕ} 0 1 = cc in absurd (omega arith)
+    go : (mark t : Bool) (cell : ℕ) → cond t (Inside cell (at .x) (at .y) mark) (Outside (at .x) (at .y) mark) ≡ Refused number → ⊥
+    go mark true cell f = let z : _≡_ {A = ℕ} 0 1 = cc in absurd (omega arith)
+    go mark false cell f = let z : _≡_ {A = ℕ} 0 1 = cc in absurd (omega arith)
 
 accepted-located : (site : Site) (grid : Grid) (azimuth range : ℕ) → gateRefusal site grid azimuth range ≡ 0 → placementOf site grid azimuth range ≡ located (windowOf grid) (positionOf (sphereOf grid) site azimuth range)
 unfolding placementOf unlessRefused

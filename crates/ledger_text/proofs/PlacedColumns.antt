@@ -16,7 +16,7 @@ use Rattle.refusal.specs.Checks.{firstRefusal}
 use Rattle.placement.specs.GateRefusal.{gateRefusal}
 use Rattle.grid.specs.Sphere.{sphereOf}
 use Rattle.grid.specs.Window.{windowOf}
-use Rattle.placement.specs.Located.{inWindow, located}
+use Rattle.placement.specs.Located.{inWindow, marked, located}
 use Rattle.scan.proofs.AcceptedScan.{window-size}
 use Rattle.ledger_text.specs.PlacedColumns.{columnsThere}
 
@@ -34,11 +34,11 @@ grid-of site grid azimuth range e =
 
 located-columns : (columns : ℕ) (window : Window) (at : Position) → 1 ≤ columns → columnsThere columns (located window at) ≡ true
 unfolding located columnsThere
-located-columns columns window at h = go (inWindow window at) _
+located-columns columns window at h = go (marked window at) (inWindow window at) _
   where
-    go : (t : Bool) (cell : ℕ) → columnsThere columns (cond t (Inside cell (at .x) (at .y)) (Outside (at .x) (at .y))) ≡ true
-    go true cell = le-leb 1 columns h
-    go false cell = refl
+    go : (mark t : Bool) (cell : ℕ) → columnsThere columns (cond t (Inside cell (at .x) (at .y) mark) (Outside (at .x) (at .y) mark)) ≡ true
+    go mark true cell = le-leb 1 columns h
+    go mark false cell = refl
 
 pub placed-columns : (site : Site) (grid : Grid) (azimuth range : ℕ) → columnsThere (windowOf grid .columns) (placementOf site grid azimuth range) ≡ true
 unfolding placementOf unlessRefused columnsThere

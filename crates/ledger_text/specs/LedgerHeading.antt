@@ -3,7 +3,7 @@ use mathlib.Core.List.{List, [], _∷_}
 use Prim.Native.Nat.{ℕ}
 use Rattle.text.specs.DecimalText.{lineOf}
 
--- ray gate azimuth range value quality x y column row
+-- ray gate azimuth range value quality x y column row mark
 unfoldable pub fieldNames : List (List ℕ)
 fieldNames =
     (114 ∷ 97 ∷ 121 ∷ [])
@@ -16,6 +16,7 @@ fieldNames =
     ∷ (121 ∷ [])
     ∷ (99 ∷ 111 ∷ 108 ∷ 117 ∷ 109 ∷ 110 ∷ [])
     ∷ (114 ∷ 111 ∷ 119 ∷ [])
+    ∷ (109 ∷ 97 ∷ 114 ∷ 107 ∷ [])
     ∷ []
 
 unfoldable pub ledgerHeading : List ℕ

@@ -1,4 +1,4 @@
--- The line of a gate: RAY GATE AZIMUTH RANGE VALUE QUALITY X Y COLUMN ROW, or the word outside for the last two. Assumes nothing.
+-- The line of a gate: RAY GATE AZIMUTH RANGE VALUE QUALITY X Y COLUMN ROW MARK, with the word outside for column and row. Assumes nothing.
 use mathlib.Core.Bool.{_&&_, cond}
 use mathlib.Core.List.{List, [], _∷_, _++_}
 use Prim.Native.Nat.{ℕ, _+_, _*_, _/_, _%_}
@@ -20,9 +20,9 @@ outsideWord = 111 ∷ 117 ∷ 116 ∷ 115 ∷ 105 ∷ 100 ∷ 101 ∷ []
 
 -- a cell is row x columns + column; a gate of a good record is never refused (proofs/NeverRefused.antt)
 unfoldable pub placementWords : ℕ → Placement → List (List ℕ)
-placementWords columns (Inside cell x y) =
-    signedDecimalOf x ∷ signedDecimalOf y ∷ decimalOf (cell % columns) ∷ decimalOf (cell / columns) ∷ []
-placementWords columns (Outside x y) = signedDecimalOf x ∷ signedDecimalOf y ∷ outsideWord ∷ []
+placementWords columns (Inside cell x y mark) =
+    signedDecimalOf x ∷ signedDecimalOf y ∷ decimalOf (cell % columns) ∷ decimalOf (cell / columns) ∷ decimalOf (cond mark 1 0) ∷ []
+placementWords columns (Outside x y mark) = signedDecimalOf x ∷ signedDecimalOf y ∷ outsideWord ∷ decimalOf (cond mark 1 0) ∷ []
 placementWords columns (Refused number) = refusedWord ∷ decimalOf number ∷ []
 
 -- gate k of the scan is gate k mod gates of ray k div gates, with its centre at first + gate x spacing

@@ -7,6 +7,6 @@ use Rattle.placement.specs.declared.gate.Placement.the-variants.{Inside, Outsid
 
 -- a cell has a column and a row where the grid has columns
 unfoldable pub columnsThere : ℕ → Placement → Bool
-columnsThere columns (Inside cell x y) = leb 1 columns
-columnsThere columns (Outside x y) = true
+columnsThere columns (Inside cell x y mark) = leb 1 columns
+columnsThere columns (Outside x y mark) = true
 columnsThere columns (Refused number) = true

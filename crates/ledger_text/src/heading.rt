@@ -13,6 +13,6 @@ pub fn ledger_heading(line: &mut [u8; 256]) -> usize
     text::put_word(
         line,
         0,
-        b"ray gate azimuth range value quality x y column row\n",
+        b"ray gate azimuth range value quality x y column row mark\n",
     )
 }

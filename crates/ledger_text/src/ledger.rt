@@ -1,4 +1,4 @@
-// The line of one gate of a record: ray, gate, azimuth, range, value, quality, X, Y, then column and row or the word `outside`.
+// The line of one gate of a record: ray, gate, azimuth, range, value, quality, X, Y, then column and row or the word `outside`, and the mark.
 use crate::columns::columns_of;
 use placement::Placement;
 use record_reader::ReadScan;
@@ -89,32 +89,42 @@ fn put_gate(
 fn put_place(line: &mut [u8; 256], at: usize, columns: u32, placement: Placement) -> usize
     requires { ⌜ (at ≤ 126) × (columnsThere columns placement ≡ true) ⌝ }
     ensures { λ r. ⌜ Stored (now (line .entry)) at (lineOf (placementWords columns placement)) r (now (line .exit)) ⌝ }
-    ensures bounded { λ r. ⌜ r ≤ at + 84 ⌝ }
+    ensures bounded { λ r. ⌜ r ≤ at + 105 ⌝ }
 {
     match placement {
-        Placement::Inside { cell, x, y } => put_inside(line, at, columns, cell, x, y),
-        Placement::Outside { x, y } => put_outside(line, at, x, y),
+        Placement::Inside { cell, x, y, mark } => put_inside(line, at, columns, cell, x, y, mark),
+        Placement::Outside { x, y, mark } => put_outside(line, at, x, y, mark),
         Placement::Refused(number) => put_refused(line, at, number),
     }
 }
 
-fn put_inside(line: &mut [u8; 256], at: usize, columns: u32, cell: u32, x: i64, y: i64) -> usize
+fn put_inside(
+    line: &mut [u8; 256],
+    at: usize,
+    columns: u32,
+    cell: u32,
+    x: i64,
+    y: i64,
+    mark: bool,
+) -> usize
     requires { ⌜ (at ≤ 126) × (1 ≤ columns) ⌝ }
-    ensures { λ r. ⌜ Stored (now (line .entry)) at (lineOf (placementWords columns (Inside cell x y))) r (now (line .exit)) ⌝ }
-    ensures bounded { λ r. ⌜ r ≤ at + 84 ⌝ }
+    ensures { λ r. ⌜ Stored (now (line .entry)) at (lineOf (placementWords columns (Inside cell x y mark))) r (now (line .exit)) ⌝ }
+    ensures bounded { λ r. ⌜ r ≤ at + 105 ⌝ }
 {
     let after_x = put_integer(line, at, x, 32);
     let after_y = put_integer(line, after_x, y, 32);
     let after_column = put_number(line, after_y, (cell % columns) as u64, 32);
-    put_number(line, after_column, (cell / columns) as u64, 10)
+    let after_row = put_number(line, after_column, (cell / columns) as u64, 32);
+    put_number(line, after_row, mark as u64, 10)
 }
 
-fn put_outside(line: &mut [u8; 256], at: usize, x: i64, y: i64) -> usize
+fn put_outside(line: &mut [u8; 256], at: usize, x: i64, y: i64, mark: bool) -> usize
     requires { ⌜ at ≤ 126 ⌝ }
-    ensures { λ r. ⌜ Stored (now (line .entry)) at (lineOf (placementWords 0 (Outside x y))) r (now (line .exit)) ⌝ }
-    ensures bounded { λ r. ⌜ r ≤ at + 84 ⌝ }
+    ensures { λ r. ⌜ Stored (now (line .entry)) at (lineOf (placementWords 0 (Outside x y mark))) r (now (line .exit)) ⌝ }
+    ensures bounded { λ r. ⌜ r ≤ at + 105 ⌝ }
 {
     let after_x = put_integer(line, at, x, 32);
     let after_y = put_integer(line, after_x, y, 32);
-    put_text(line, after_y, b"outside", 10)
+    let after_word = put_text(line, after_y, b"outside", 32);
+    put_number(line, after_word, mark as u64, 10)
 }

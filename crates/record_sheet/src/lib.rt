@@ -19,6 +19,7 @@ pub fn cells_text(
     values: &mut [u16],
     qualities: &mut [u8],
     ledger: &mut [u32],
+    marks: &mut [u8],
     counts: &mut [u32],
     quality_sums: &mut [u32],
     value_sums: &mut [u64],
@@ -26,7 +27,7 @@ pub fn cells_text(
     cell_qualities: &mut [u8],
     page: &mut [u8; 120000],
 ) -> usize
-    requires { ⌜ Sized (now bytes) head × (listsExact (scanHeld head azimuths values qualities) (listsHeld ledger counts «quality_sums» «value_sums» means «cell_qualities») ≡ true) ⌝ }
+    requires { ⌜ Sized (now bytes) head × (listsExact (scanHeld head azimuths values qualities) (listsHeld ledger marks counts «quality_sums» «value_sums» means «cell_qualities») ≡ true) ⌝ }
     ensures { λ r. ⌜ r ≤ 120000 ⌝ }
     ensures { λ r. ⌜ Stored (now (page .entry)) 0 (goodSheet (now (bytes .entry))) r (now (page .exit)) ⌝ }
 {
@@ -37,6 +38,7 @@ pub fn cells_text(
         values,
         qualities,
         ledger,
+        marks,
         counts,
         quality_sums,
         value_sums,

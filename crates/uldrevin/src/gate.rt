@@ -1,4 +1,4 @@
-// The placement of one gate. The answer is 0, with cell, X and Y written, or the refusal number, with the three as they came in. The
+// The placement of one gate. The answer is 0, with cell, X, Y and mark written, or the refusal number, with the four as they came in. The
 // cell of a gate outside the grid is 4,294,967,295.
 use c_answers::answer_gate;
 use c_structs::grid_at;
@@ -20,6 +20,7 @@ pub extern "C" fn uldrevin_place(
     cell: &mut u32,
     x: &mut i64,
     y: &mut i64,
+    mark: &mut u8,
 ) -> u32
     ensures { λ r.
         let at = siteAt (now (site .entry)) 0 in
@@ -27,7 +28,7 @@ pub extern "C" fn uldrevin_place(
         ⌜ Answers
         (gateRefusal at on (spec.unsigned32 azimuth) (spec.unsigned32 range))
         (placedGate at on (spec.unsigned32 azimuth) (spec.unsigned32 range))
-        (lentGate cell x y) r ⌝ }
+        (lentGate cell x y mark) r ⌝ }
 {
     answer_gate(
         placement::place(
@@ -39,5 +40,6 @@ pub extern "C" fn uldrevin_place(
         cell,
         x,
         y,
+        mark,
     )
 }

@@ -42,6 +42,7 @@ pub extern "C" fn uldrevin_sweep_take(
     values: &[u16],
     qualities: &[u8],
     ledger: &mut [u32],
+    marks: &mut [u8],
     counts: &mut [u32],
     quality_sums: &mut [u32],
     value_sums: &mut [u64],
@@ -49,7 +50,7 @@ pub extern "C" fn uldrevin_sweep_take(
     ensures { λ r.
         let state = sweepOf (now (sweep .entry)) in
         let group = groupHeld (azimuths .entry) (values .entry) (qualities .entry) in
-        let lent = withSweep sweep (lentRayLists ledger counts «quality_sums» «value_sums») in
+        let lent = withSweep sweep (lentRayLists ledger marks counts «quality_sums» «value_sums») in
         ⌜ Answers (raysRefusal state group (lent .entry .lists)) (record { sweep = sweepNumbers (counted state group); lists = takenLists (state .head) (state .taken) group (lent .entry .lists) }) lent r ⌝ }
 {
     let state = sweep_of(sweep);
@@ -59,6 +60,7 @@ pub extern "C" fn uldrevin_sweep_take(
             values,
             qualities,
             ledger,
+            marks,
             counts,
             quality_sums,
             value_sums,

@@ -15,6 +15,7 @@ pub extern "C" fn uldrevin_remap(
     values: &[u16],
     qualities: &[u8],
     ledger: &mut [u32],
+    marks: &mut [u8],
     counts: &mut [u32],
     quality_sums: &mut [u32],
     value_sums: &mut [u64],
@@ -23,7 +24,7 @@ pub extern "C" fn uldrevin_remap(
 ) -> u32
     ensures { λ r.
         let given = scanHeld (headOf (now (scan .entry))) (azimuths .entry) (values .entry) (qualities .entry) in
-        let lists = lentLists ledger counts «quality_sums» «value_sums» means «cell_qualities» in
+        let lists = lentLists ledger marks counts «quality_sums» «value_sums» means «cell_qualities» in
         ⌜ Answers (refusalFor given (lists .entry)) (filledLists given) lists r ⌝ }
 {
     let head = head_of(scan);
@@ -33,6 +34,7 @@ pub extern "C" fn uldrevin_remap(
         values,
         qualities,
         ledger,
+        marks,
         counts,
         quality_sums,
         value_sums,

@@ -51,8 +51,8 @@ const MOST_PRINTED: u64 = 10;
 /// The command that works something again, without its last words.
 const AGAIN: &str = "cargo run --release --offline -p at_scale --";
 
-/// In so many cases each refusal number, also in each state of a sweep, each mark, and each number that 32 bits do not hold, comes up dozens
-/// of times, so one that does not is an error.
+/// In so many cases each refusal number, also in each state of a sweep, each mark, and each number that 32 bits do not hold, comes up
+/// dozens of times, so one that does not is an error.
 const CASES_FOR_ALL: u64 = 100_000;
 
 fn print_difference(kind: Kind, seed: u64, outcome: &Outcome, counts: &Counts) {

@@ -82,7 +82,7 @@ fn centres_about(draw: &mut Draw, gates: i64, range: i64) -> (i64, i64) {
     (first.min(FARTHEST - (gates - 1) * spacing), spacing)
 }
 
-/// A range near which edge lines are met. Those of RADOLAN are drawn afterwards.
+/// A range near which edge lines are met; those of RADOLAN are drawn to it afterwards.
 fn range_at_lines(draw: &mut Draw, tables: &Tables, kind: i64, site: Site, azimuth: i64) -> i64 {
     match kind {
         HRAP_KIND => range_at_mesh_line(draw, tables, site, azimuth),

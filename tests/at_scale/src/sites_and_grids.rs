@@ -50,7 +50,7 @@ fn changes(side: i64) -> [i64; 3] {
     [0, MARKED_WITHIN, side - MARKED_WITHIN]
 }
 
-/// A range beyond `near` at which the mesh number is another than one centimetre before; `far` where it is the same at both.
+/// A range from `near` to `far` at which the mesh number is another than one centimetre before; `far` where both have the same.
 fn crossing(near: i64, far: i64, mesh_number: impl Fn(i64) -> i64) -> i64 {
     let (mut low, mut high) = (near, far);
     let before = mesh_number(low);

@@ -380,6 +380,20 @@ mod tests {
         assert_eq!(refused(sweep, bad_quality), [8, 18]);
     }
 
+    /// Also one that is not measured. North of the site X stays 0.
+    #[test]
+    fn every_gate_has_its_mark() {
+        let group = Given {
+            azimuths: &[900_000, 0],
+            values: &[NOT_MEASURED; 4],
+            qualities: &[0; 4],
+        };
+        let mut lists = BEFORE;
+        let opened = open(TWO_RAYS, &mut lists).unwrap();
+        assert!(take(opened, group, &mut lists).is_ok());
+        assert_eq!(lists.marks, [1, 0, 1, 1]);
+    }
+
     /// Ledger and marks are those of all rays announced.
     #[test]
     fn lengths_of_the_entries() {

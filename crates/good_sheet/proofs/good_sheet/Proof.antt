@@ -42,53 +42,60 @@ array-borrow-prefix-ledger c = search needs
 slice-aggregate-cells-text-4 : tie.Need-slice-aggregate-cells-text-4
 slice-aggregate-cells-text-4 c = sym (length-take-le _ _ (array-borrow-prefix-ledger (c .before)))
 
+array-borrow-prefix-marks : tie.Need-array-borrow-prefix-marks
+array-borrow-prefix-marks c = search needs
+
+slice-aggregate-cells-text-5 : tie.Need-slice-aggregate-cells-text-5
+slice-aggregate-cells-text-5 c = sym (length-take-le _ _ (array-borrow-prefix-marks (c .before)))
+
 array-borrow-prefix-counts : tie.Need-array-borrow-prefix-counts
 array-borrow-prefix-counts c = search needs
 
-slice-aggregate-cells-text-5 : tie.Need-slice-aggregate-cells-text-5
-slice-aggregate-cells-text-5 c = sym (length-take-le _ _ (array-borrow-prefix-counts (c .before)))
+slice-aggregate-cells-text-6 : tie.Need-slice-aggregate-cells-text-6
+slice-aggregate-cells-text-6 c = sym (length-take-le _ _ (array-borrow-prefix-counts (c .before)))
 
 array-borrow-prefix-quality-sums : tie.Need-array-borrow-prefix-quality-sums
 array-borrow-prefix-quality-sums c = search needs
 
-slice-aggregate-cells-text-6 : tie.Need-slice-aggregate-cells-text-6
-slice-aggregate-cells-text-6 c = sym (length-take-le _ _ (array-borrow-prefix-quality-sums (c .before)))
+slice-aggregate-cells-text-7 : tie.Need-slice-aggregate-cells-text-7
+slice-aggregate-cells-text-7 c = sym (length-take-le _ _ (array-borrow-prefix-quality-sums (c .before)))
 
 array-borrow-prefix-value-sums : tie.Need-array-borrow-prefix-value-sums
 array-borrow-prefix-value-sums c = search needs
 
-slice-aggregate-cells-text-7 : tie.Need-slice-aggregate-cells-text-7
-slice-aggregate-cells-text-7 c = sym (length-take-le _ _ (array-borrow-prefix-value-sums (c .before)))
+slice-aggregate-cells-text-8 : tie.Need-slice-aggregate-cells-text-8
+slice-aggregate-cells-text-8 c = sym (length-take-le _ _ (array-borrow-prefix-value-sums (c .before)))
 
 array-borrow-prefix-means : tie.Need-array-borrow-prefix-means
 array-borrow-prefix-means c = search needs
 
-slice-aggregate-cells-text-8 : tie.Need-slice-aggregate-cells-text-8
-slice-aggregate-cells-text-8 c = sym (length-take-le _ _ (array-borrow-prefix-means (c .before)))
+slice-aggregate-cells-text-9 : tie.Need-slice-aggregate-cells-text-9
+slice-aggregate-cells-text-9 c = sym (length-take-le _ _ (array-borrow-prefix-means (c .before)))
 
 array-borrow-prefix-cell-qualities : tie.Need-array-borrow-prefix-cell-qualities
 array-borrow-prefix-cell-qualities c = search needs
 
-slice-aggregate-cells-text-9 : tie.Need-slice-aggregate-cells-text-9
-slice-aggregate-cells-text-9 c = sym (length-take-le _ _ (array-borrow-prefix-cell-qualities (c .before)))
+slice-aggregate-cells-text-10 : tie.Need-slice-aggregate-cells-text-10
+slice-aggregate-cells-text-10 c = sym (length-take-le _ _ (array-borrow-prefix-cell-qualities (c .before)))
 
 cells-text-requires : tie.Need-cells-text-requires
 unfolding listsExact
 cells-text-requires c κs =
-    let gates = c .before .before .before .before .before .before .before .before .before .before .before .gates-of .ensures in
-    let cells = c .before .before .before .before .before .before .before .before .before .before .cells-of .ensures in
-    let start = c .before .before .before .before .before .before .before .before .before .before .before .before .before .before in (
+    let gates = c .before .before .before .before .before .before .before .before .before .before .before .before .gates-of .ensures in
+    let cells = c .before .before .before .before .before .before .before .before .before .before .before .cells-of .ensures in
+    let start = c .before .before .before .before .before .before .before .before .before .before .before .before .before .before .before in (
       start .pre,
       lengths-exact _ _ (record {
-        azimuths-length = sym (slice-aggregate-cells-text (c .before .before .before .before .before .before .before .before .before));
-        values-length = sym (slice-aggregate-cells-text-2 (c .before .before .before .before .before .before .before .before)) ∙ gates;
-        qualities-length = sym (slice-aggregate-cells-text-3 (c .before .before .before .before .before .before .before)) ∙ gates;
-        ledger-length = sym (slice-aggregate-cells-text-4 (c .before .before .before .before .before .before)) ∙ gates;
-        counts-length = sym (slice-aggregate-cells-text-5 (c .before .before .before .before .before)) ∙ cells;
-        quality-sums-length = sym (slice-aggregate-cells-text-6 (c .before .before .before .before)) ∙ cells;
-        value-sums-length = sym (slice-aggregate-cells-text-7 (c .before .before .before)) ∙ cells;
-        means-length = sym (slice-aggregate-cells-text-8 (c .before .before)) ∙ cells;
-        cell-qualities-length = sym (slice-aggregate-cells-text-9 (c .before)) ∙ cells;
+        azimuths-length = sym (slice-aggregate-cells-text (c .before .before .before .before .before .before .before .before .before .before));
+        values-length = sym (slice-aggregate-cells-text-2 (c .before .before .before .before .before .before .before .before .before)) ∙ gates;
+        qualities-length = sym (slice-aggregate-cells-text-3 (c .before .before .before .before .before .before .before .before)) ∙ gates;
+        ledger-length = sym (slice-aggregate-cells-text-4 (c .before .before .before .before .before .before .before)) ∙ gates;
+        marks-length = sym (slice-aggregate-cells-text-5 (c .before .before .before .before .before .before)) ∙ gates;
+        counts-length = sym (slice-aggregate-cells-text-6 (c .before .before .before .before .before)) ∙ cells;
+        quality-sums-length = sym (slice-aggregate-cells-text-7 (c .before .before .before .before)) ∙ cells;
+        value-sums-length = sym (slice-aggregate-cells-text-8 (c .before .before .before)) ∙ cells;
+        means-length = sym (slice-aggregate-cells-text-9 (c .before .before)) ∙ cells;
+        cell-qualities-length = sym (slice-aggregate-cells-text-10 (c .before)) ∙ cells;
       }),
     )
 
@@ -110,15 +117,17 @@ good-sheet-spec =
     slice-aggregate-cells-text-3
     array-borrow-prefix-ledger
     slice-aggregate-cells-text-4
-    array-borrow-prefix-counts
+    array-borrow-prefix-marks
     slice-aggregate-cells-text-5
-    array-borrow-prefix-quality-sums
+    array-borrow-prefix-counts
     slice-aggregate-cells-text-6
-    array-borrow-prefix-value-sums
+    array-borrow-prefix-quality-sums
     slice-aggregate-cells-text-7
-    array-borrow-prefix-means
+    array-borrow-prefix-value-sums
     slice-aggregate-cells-text-8
-    array-borrow-prefix-cell-qualities
+    array-borrow-prefix-means
     slice-aggregate-cells-text-9
+    array-borrow-prefix-cell-qualities
+    slice-aggregate-cells-text-10
     cells-text-requires
     returns)

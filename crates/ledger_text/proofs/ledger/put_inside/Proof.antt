@@ -2,6 +2,7 @@
 use native.Mathlib.Omega.{arith}
 use native.Mathlib.Nat.{mod-lt, div-le-self}
 use mir.Facts.{toZ-ofZ}
+use Rattle.placement.proofs.MarkByte.{mark-byte}
 use Rattle.ledger_text.specs.LedgerLine.{placementWords}
 use Rattle.text.proofs.StoredLaws.{line-last, line-before}
 use borrow.Author.Needs.{needs}
@@ -32,11 +33,17 @@ cast-put-number-2 c = record { fits = omega (arith, div-le-self (c .before .befo
 put-number-requires-2 : tie.Need-put-number-requires-2
 put-number-requires-2 c κs = search needs
 
+cast-put-number-3 : tie.Need-cast-put-number-3
+cast-put-number-3 c = search needs
+
+put-number-requires-3 : tie.Need-put-number-requires-3
+put-number-requires-3 c κs = search needs
+
 returns : tie.Need-returns
 unfolding placementWords
 returns c =
-    let fits = c .before .before .before .before .before .before .before .before .fits in (
-      line-before _ _ _ (rw (toZ-ofZ (fits .x)) at (c .before .before .before .before .before .before .put-integer .ensures .0)) (line-before _ _ _ (rw (toZ-ofZ (fits .y)) at (c .before .before .before .before .put-integer2 .ensures .0)) (line-before _ _ _ (c .before .before .put-number .ensures .0) (line-last _ (c .put-number2 .ensures .0)))),
+    let s = c .before .before .before .before .before .before .before .before .before .before in (
+      line-before _ _ _ (rw (toZ-ofZ (s .fits .x)) at (c .before .before .before .before .before .before .before .before .put-integer .ensures .0)) (line-before _ _ _ (rw (toZ-ofZ (s .fits .y)) at (c .before .before .before .before .before .before .put-integer2 .ensures .0)) (line-before _ _ _ (c .before .before .before .before .put-number .ensures .0) (line-before _ _ _ (c .before .before .put-number2 .ensures .0) (line-last _ (rw (mark-byte (s .args .mark)) at (c .put-number3 .ensures .0)))))),
       search needs,
     )
 
@@ -52,4 +59,6 @@ put-inside-spec =
     div-put-number
     cast-put-number-2
     put-number-requires-2
+    cast-put-number-3
+    put-number-requires-3
     returns)

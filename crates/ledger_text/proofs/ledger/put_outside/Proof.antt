@@ -1,6 +1,7 @@
 -- `ledger_text::ledger::put_outside` meets its contract. Assumes nothing.
 use native.Mathlib.Omega.{arith}
 use mir.Facts.{toZ-ofZ}
+use Rattle.placement.proofs.MarkByte.{mark-byte}
 use Rattle.ledger_text.specs.LedgerLine.{placementWords, outsideWord}
 use Rattle.text.proofs.StoredLaws.{line-last, line-before}
 use borrow.Author.Needs.{needs}
@@ -19,15 +20,22 @@ slice-aggregate-put-text c = search needs
 put-text-requires : tie.Need-put-text-requires
 put-text-requires c κs = search needs
 
+cast-put-number : tie.Need-cast-put-number
+cast-put-number c = search needs
+
+put-number-requires : tie.Need-put-number-requires
+put-number-requires c κs = search needs
+
 returns : tie.Need-returns
 unfolding placementWords outsideWord
 returns c =
-    let x = c .before .before .before .before .before .put-integer .ensures in
-    let y = c .before .before .before .put-integer2 .ensures in
-    let word = c .put-text .ensures in
-    let fits = c .before .before .before .before .before .before .before .fits in (
-      line-before _ _ _ (rw (toZ-ofZ (fits .x)) at (x .0)) (line-before _ _ _ (rw (toZ-ofZ (fits .y)) at (y .0)) (line-last _ word)),
-      omega (arith, x .1, y .1, word .the-end),
+    let x = c .before .before .before .before .before .before .before .put-integer .ensures in
+    let y = c .before .before .before .before .before .put-integer2 .ensures in
+    let word = c .before .before .put-text .ensures in
+    let mark = c .put-number .ensures in
+    let s = c .before .before .before .before .before .before .before .before .before in (
+      line-before _ _ _ (rw (toZ-ofZ (s .fits .x)) at (x .0)) (line-before _ _ _ (rw (toZ-ofZ (s .fits .y)) at (y .0)) (line-before _ _ _ word (line-last _ (rw (mark-byte (s .args .mark)) at (mark .0))))),
+      omega (arith, x .1, y .1, word .the-end, mark .1),
     )
 
 pub put-outside-spec : {M : Type 1} → statement M
@@ -38,4 +46,6 @@ put-outside-spec =
     put-integer-requires-2
     slice-aggregate-put-text
     put-text-requires
+    cast-put-number
+    put-number-requires
     returns)
