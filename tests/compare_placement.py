@@ -103,7 +103,7 @@ def refusal_differences(compiled, cases):
     return differences
 
 
-# Document 01's cases of one gate that are not marked.
+# Document 01's cases of one gate that are run and not proved.
 
 
 def hrap_case(compiled):

@@ -33,7 +33,7 @@ MEASURED = (0, 1, 7, 65_533, NO_ECHO)
 
 
 class Mixture(NamedTuple):
-    kind: type  # of grid
+    kind: str  # of grid
     side: int
     east: int  # the remainder of X less the corner
     north: int  # that of Y
@@ -44,7 +44,7 @@ class Mixture(NamedTuple):
 
 PLACES = ((False, False, True), *((west, south, False) for west, south in product((False, True), repeat=2)))
 WANTED = {
-    Mixture(kind, side, east % side, north % side, *place)
+    Mixture(kind.__name__, side, east % side, north % side, *place)
     for (kind, side), east, north, place in product(GRIDS, STEPS, STEPS, PLACES)
 }
 
@@ -53,12 +53,12 @@ def mixture(gate):
     grid, (x, y), (corner_x, corner_y) = gate.grid, position(gate), gate.grid.corner
     remainders = (x - corner_x) % grid.side, (y - corner_y) % grid.side
     inside = placement.cell(grid, x, y) != OUTSIDE
-    return Mixture(type(grid), grid.side, *remainders, x < corner_x, y < corner_y, inside)
+    return Mixture(type(grid).__name__, grid.side, *remainders, x < corner_x, y < corner_y, inside)
 
 
 def not_met(gates):
     """The mixtures that none of these gates is."""
-    return [f"no gate is {one}" for one in sorted(WANTED - set(map(mixture, gates)), key=str)]
+    return [f"no gate is {one}" for one in sorted(WANTED - set(map(mixture, gates)))]
 
 
 # Aims: the azimuth and the range of a gate, by its steps from a crossing.

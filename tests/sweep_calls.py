@@ -14,7 +14,7 @@ from second_program.sweep import Sums
 
 STATE = sizeof(Sweep) // sizeof(c_int64)  # numbers
 SUMS = Sums._fields
-TAKEN = Lent._fields[:5]  # what taking writes: ledger, marks and sums
+ENTRIES_AND_SUMS = Lent._fields[:5]  # ledger, marks and the three sums
 CELLS = Lent._fields[5:]  # means and cell qualities
 EXACT = {}  # no step from any length
 
@@ -64,11 +64,11 @@ class Desk:
         return self.compared("open", arguments, expected, SUMS, {"scan": head})
 
     def take(self, rays, steps=EXACT):
-        ledger, marks, *sums = self.seen(TAKEN, steps)
+        ledger, marks, *sums = self.seen(ENTRIES_AND_SUMS, steps)
         expected = rules.take(self.sweep(), rays, ledger, marks, Sums(*sums))
         given = dict(zip(GIVEN, given_lists(rays)))
-        arguments = sweep_within(self.state), *lending_all(given.values()), *self.lent(TAKEN, steps)
-        return self.compared("take", arguments, expected, TAKEN, given)
+        arguments = sweep_within(self.state), *lending_all(given.values()), *self.lent(ENTRIES_AND_SUMS, steps)
+        return self.compared("take", arguments, expected, ENTRIES_AND_SUMS, given)
 
     def close(self, steps=EXACT):
         lengths = [len(cells) for cells in self.seen(CELLS, steps)]

@@ -7,7 +7,7 @@ from lent_lists import filled_with, within_margins
 from record_calls import answered
 from second_program import scan as scan_rules
 from second_program.scan import Lent
-from sweep_calls import CELLS, TAKEN, Desk, beside_meant, rays_of
+from sweep_calls import CELLS, ENTRIES_AND_SUMS, Desk, beside_meant, rays_of
 
 
 class Course:
@@ -46,7 +46,7 @@ class Course:
         """Ledger, marks and sums are those of the rays so far; what is for rays not yet taken, and the cells, are as lent."""
         entries, marks = (held[: taken * self.scan.gates] for held in (self.whole.ledger, self.whole.marks))
         sums = scan_rules.tally(self.scan._replace(**rays_of(self.scan, 0, taken)._asdict()), entries)
-        self.beside(f"after {taken} rays", dict(zip(TAKEN, (entries, marks, *sums))) | dict.fromkeys(CELLS, ()))
+        self.beside(f"after {taken} rays", dict(zip(ENTRIES_AND_SUMS, (entries, marks, *sums))) | dict.fromkeys(CELLS, ()))
 
     def beside(self, words, expected):
         """Each list holds these numbers from its start, and behind them what it held when it was lent."""

@@ -7,7 +7,7 @@ from far_numbers import FAR, far_from
 from second_program.placement import Hrap
 from second_program.record import head_of
 from second_program.scan import Lent
-from sweep_calls import CELLS, SUMS, TAKEN, Rays
+from sweep_calls import CELLS, ENTRIES_AND_SUMS, SUMS, Rays
 from wrong_scans import EMPTY, GIVEN, HRAP_SCAN, RADOLAN_SCAN, changes_of_each, lendable, resized
 
 # The first of these that applies is given.
@@ -16,7 +16,7 @@ ORDER = {
     "take": (19, 17, 1, 2, 3, 4, 5, 6, 7, 8, 31),
     "close": (19, 17, 1, 2, 3, 4, 5, 18, 6),
 }
-LISTS = {"take": (*GIVEN, *TAKEN), "close": (*SUMS, *CELLS)}
+LISTS = {"take": (*GIVEN, *ENTRIES_AND_SUMS), "close": (*SUMS, *CELLS)}
 
 GROUP = 2  # rays
 
