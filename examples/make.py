@@ -75,6 +75,18 @@ SCENES = {
         shower=Shower(azimuth=45 * DEGREE, range=5 * KILOMETRE, radius=6 * KILOMETRE, heaviest=800),
         hill=Hill(ray=12, gate=9),
     ),
+    "crossing": Scene(
+        rays=8,
+        gates=10,
+        first=KILOMETRE // 4,
+        spacing=KILOMETRE // 2,
+        latitude=510_000,
+        longitude=100_000,
+        grid=Radolan(-4 * KILOMETRE, -420_928_583 - 3 * KILOMETRE, KILOMETRE, columns=8, rows=6),
+        by_quality=True,
+        shower=Shower(azimuth=0, range=2 * KILOMETRE, radius=3 * KILOMETRE, heaviest=600),
+        hill=Hill(ray=6, gate=4),
+    ),
 }
 
 

@@ -8,9 +8,7 @@ import subprocess
 import sys
 
 import declarations
-from crossing import CROSSING
 from declarations import ROOT
-from uldrevin import write_record
 
 ARCHIVE = "target/staticlib/libuldrevin.a"
 GCC = ["gcc", "-std=c99", "-Wall", "-Wextra", "-Werror", "-pedantic", "-O2", "-Iinclude"]
@@ -74,16 +72,10 @@ def expected_grid(record):
     return sheet + "ledger\n" + "".join(entries)
 
 
-def records():
-    """Both example records, of which no gate is marked, and one with marked gates."""
-    for name in ("hrap.scan", "radolan.scan"):
-        yield name, (ROOT / "examples" / name).read_bytes()
-    yield "crossing", write_record(*CROSSING)
-
-
 def grids_differ(command, expected_of):
     differences = []
-    for name, record in records():
+    for name in ("hrap.scan", "radolan.scan", "crossing.scan"):
+        record = (ROOT / "examples" / name).read_bytes()
         for words, data in (("", record), (" cut short", record[:-1]), (" with a byte more", record + b"\0")):
             done, expected = ended(command, data), expected_of(data)
             if (done.stdout.decode(), done.returncode) != (expected, 0 if expected.startswith("grid") else 1):

@@ -20,7 +20,6 @@ BINDING = ROOT / "bindings" / "python"
 sys.path.insert(0, str(BINDING))
 
 import uldrevin  # noqa: E402
-from crossing import CROSSING  # noqa: E402
 from uldrevin import BY_QUALITY, NO_ECHO, NO_MEAN, NOT_MEASURED, OUTSIDE, PLAIN, Hrap, Placement, Radolan, Site, flat  # noqa: E402
 
 try:
@@ -28,10 +27,7 @@ try:
 except ImportError:
     numpy = None
 
-RECORDS = [
-    *((name, (ROOT / "examples" / name).read_bytes()) for name in ("hrap.scan", "radolan.scan")),
-    ("crossing", uldrevin.write_record(*CROSSING)),
-]
+RECORDS = [(name, (ROOT / "examples" / name).read_bytes()) for name in ("hrap.scan", "radolan.scan", "crossing.scan")]
 
 # Document 01's example for the sheet program; both gates lie in the second cell, on its west edge, and are marked.
 EXAMPLE = uldrevin.Scan(Site(600_000, -1_050_000), Hrap(400, 932, 2, 1), BY_QUALITY, 0, 100_000, [0], [1, 7], [90, 10])
@@ -164,9 +160,11 @@ def scans(checks):
             expected = expected_lists(asked, placements)
             for part, got, wanted in zip(uldrevin.Remapped._fields, plain_lists(uldrevin.remap(*asked)), expected):
                 checks.equal(f"{part} of {name}, weighting {weighting}", got, wanted)
-    ledger, marks, *_ = plain_lists(uldrevin.remap(*CROSSING))
-    met = {(cell == OUTSIDE, value == NOT_MEASURED, mark) for cell, value, mark in zip(ledger, CROSSING.values, marks)}
-    checks.equal("gates inside and outside, measured and not, marked and not", len(met), 8)
+    crossing = uldrevin.read_record(RECORDS[2][1])
+    ledger, marks, *_ = plain_lists(uldrevin.remap(*crossing))
+    met = {(cell == OUTSIDE, mark) for cell, mark in zip(ledger, marks)}
+    not_measured = {mark for value, mark in zip(flat(crossing.values), marks) if value == NOT_MEASURED}
+    checks.equal("gates inside and outside, marked and not, and so not measured", (len(met), len(not_measured)), (4, 2))
 
 
 def rows_of(numbers, width):

@@ -1,9 +1,6 @@
 // The placement of one gate. The answer is 0, with cell, X, Y and mark written, or the refusal number, with the four as they came in. The
 // cell of a gate outside the grid is 4,294,967,295.
-use c_answers::answer_gate;
-use c_structs::grid_at;
-use c_structs::site_at;
-use refusal::unsigned32;
+use c_scan_calls::answer_place;
 ghost use Rattle.refusal.specs.Answer.{Answers};
 ghost use Rattle.placement.specs.Gate.{placedGate};
 ghost use Rattle.placement.specs.GateRefusal.{gateRefusal};
@@ -30,16 +27,5 @@ pub extern "C" fn uldrevin_place(
         (placedGate at on (spec.unsigned32 azimuth) (spec.unsigned32 range))
         (lentGate cell x y mark) r ⌝ }
 {
-    answer_gate(
-        placement::place(
-            site_at(site),
-            grid_at(grid),
-            unsigned32(azimuth),
-            unsigned32(range),
-        ),
-        cell,
-        x,
-        y,
-        mark,
-    )
+    answer_place(site, grid, azimuth, range, cell, x, y, mark)
 }

@@ -1,9 +1,8 @@
 // A scan whose rays are fed while the antenna turns. The answer is 0, with the state and the lent lists written, or the refusal number, with all
 // of them as they came in.
-use c_structs::head_of;
-use c_sweep::answer_sweep;
-use c_sweep::sweep_of;
-use sweep::Sweep;
+use c_sweep_calls::answer_close;
+use c_sweep_calls::answer_open;
+use c_sweep_calls::answer_take;
 ghost use Rattle.refusal.specs.Answer.{Answers};
 ghost use Rattle.tally.specs.LentSums.{sumsHeld, lentSums, lentCells};
 ghost use Rattle.tally.specs.Tally.{cleared};
@@ -29,10 +28,7 @@ pub extern "C" fn uldrevin_sweep_open(
         let lent = withSweep sweep (lentSums counts «quality_sums» «value_sums») in
         ⌜ Answers (openRefusal head (lent .entry .lists)) (record { sweep = sweepNumbers (opened head); lists = cleared (lent .entry .lists) }) lent r ⌝ }
 {
-    answer_sweep(
-        Sweep::open(head_of(scan), counts, quality_sums, value_sums),
-        sweep,
-    )
+    answer_open(scan, counts, quality_sums, value_sums, sweep)
 }
 
 #[no_mangle]
@@ -53,19 +49,16 @@ pub extern "C" fn uldrevin_sweep_take(
         let lent = withSweep sweep (lentRayLists ledger marks counts «quality_sums» «value_sums») in
         ⌜ Answers (raysRefusal state group (lent .entry .lists)) (record { sweep = sweepNumbers (counted state group); lists = takenLists (state .head) (state .taken) group (lent .entry .lists) }) lent r ⌝ }
 {
-    let state = sweep_of(sweep);
-    answer_sweep(
-        state.take_rays(
-            azimuths,
-            values,
-            qualities,
-            ledger,
-            marks,
-            counts,
-            quality_sums,
-            value_sums,
-        ),
+    answer_take(
         sweep,
+        azimuths,
+        values,
+        qualities,
+        ledger,
+        marks,
+        counts,
+        quality_sums,
+        value_sums,
     )
 }
 
@@ -84,9 +77,12 @@ pub extern "C" fn uldrevin_sweep_close(
         let lent = withSweep sweep (lentCells means «cell_qualities») in
         ⌜ Answers (closeRefusal state sums (lent .entry .lists)) (record { sweep = sweepNumbers (ended state); lists = publishedCells (state .head .weighting) sums (cellsOf (state .head)) }) lent r ⌝ }
 {
-    let state = sweep_of(sweep);
-    answer_sweep(
-        state.close(counts, quality_sums, value_sums, means, cell_qualities),
+    answer_close(
         sweep,
+        counts,
+        quality_sums,
+        value_sums,
+        means,
+        cell_qualities,
     )
 }

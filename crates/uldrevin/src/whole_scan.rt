@@ -1,6 +1,5 @@
 // The whole scan. The answer is 0, with the lent lists written, or the refusal number, with all of them as they came in.
-use c_answers::remap_number;
-use c_structs::head_of;
+use c_scan_calls::answer_remap;
 ghost use Rattle.refusal.specs.Answer.{Answers};
 ghost use Rattle.scan.specs.LentLists.{lentLists};
 ghost use Rattle.accepted_remap.specs.FilledLists.{filledLists};
@@ -27,9 +26,8 @@ pub extern "C" fn uldrevin_remap(
         let lists = lentLists ledger marks counts «quality_sums» «value_sums» means «cell_qualities» in
         ⌜ Answers (refusalFor given (lists .entry)) (filledLists given) lists r ⌝ }
 {
-    let head = head_of(scan);
-    remap_number(remap::remap(
-        head,
+    answer_remap(
+        scan,
         azimuths,
         values,
         qualities,
@@ -40,5 +38,5 @@ pub extern "C" fn uldrevin_remap(
         value_sums,
         means,
         cell_qualities,
-    ))
+    )
 }

@@ -1,10 +1,10 @@
--- `uldrevin::whole_scan::uldrevin_remap` meets its contract, which is that of `remap::remap`. Assumes nothing.
+-- `c_scan_calls::whole_scan::answer_remap` meets its contract, which is that of `remap::remap`. Assumes nothing.
 use mathlib.Core.Path.{ap, _∙_}
 use Rattle.refusal.specs.Answer.{numberIn}
 use Rattle.refusal.proofs.AnswerLaws.{number-in}
 use borrow.Author.Needs.{needs}
-use Rattle.uldrevin.proofs.whole_scan.uldrevin_remap.Statement.{statement}
-use Rattle.uldrevin.proofs.whole_scan.uldrevin_remap.Tie as tie
+use Rattle.c_scan_calls.proofs.whole_scan.answer_remap.Statement.{statement}
+use Rattle.c_scan_calls.proofs.whole_scan.answer_remap.Tie as tie
 
 head-of-requires : tie.Need-head-of-requires
 head-of-requires c κs = search needs
@@ -44,8 +44,8 @@ returns c =
       the-lent = told .the-lists;
     }
 
-pub uldrevin-remap-spec : {M : Type 1} → statement M
-uldrevin-remap-spec =
+pub answer-remap-spec : {M : Type 1} → statement M
+answer-remap-spec =
     tie.close
     (tie.spec
     head-of-requires

@@ -1,12 +1,12 @@
--- `uldrevin::turning_scan::uldrevin_sweep_take` meets its contract, which is that of `sweep::Sweep::take_rays`. Assumes nothing.
+-- `c_sweep_calls::answer_take` meets its contract, which is that of `sweep::Sweep::take_rays`. Assumes nothing.
 use mathlib.Core.Path.{ap, _∙_}
 use Rattle.refusal.specs.Answer.{numberIn}
 use Rattle.refusal.proofs.AnswerLaws.{number-in}
 use Rattle.c_sweep.specs.SweepStruct.{sweepLeft}
 use Rattle.c_sweep.proofs.SweepLeft.{sweep-left, both-left}
 use borrow.Author.Needs.{needs}
-use Rattle.uldrevin.proofs.turning_scan.uldrevin_sweep_take.Statement.{statement}
-use Rattle.uldrevin.proofs.turning_scan.uldrevin_sweep_take.Tie as tie
+use Rattle.c_sweep_calls.proofs.answer_take.Statement.{statement}
+use Rattle.c_sweep_calls.proofs.answer_take.Tie as tie
 
 sweep-of-requires : tie.Need-sweep-of-requires
 sweep-of-requires c κs = search needs
@@ -41,8 +41,8 @@ returns c =
       the-lent = (λ i. record { sweep = (answer-sweep-call .ensures .1 ∙ ap (sweepLeft _) (told .the-answer) ∙ sweep-left _ _ _) i; lists = told .the-lists i }) ∙ both-left _ _ _;
     }
 
-pub uldrevin-sweep-take-spec : {M : Type 1} → statement M
-uldrevin-sweep-take-spec =
+pub answer-take-spec : {M : Type 1} → statement M
+answer-take-spec =
     tie.close
     (tie.spec
     sweep-of-requires

@@ -1,12 +1,12 @@
--- `uldrevin::turning_scan::uldrevin_sweep_close` meets its contract, which is that of `sweep::Sweep::close`. Assumes nothing.
+-- `c_sweep_calls::answer_close` meets its contract, which is that of `sweep::Sweep::close`. Assumes nothing.
 use mathlib.Core.Path.{ap, _∙_}
 use Rattle.refusal.specs.Answer.{numberIn}
 use Rattle.refusal.proofs.AnswerLaws.{number-in}
 use Rattle.c_sweep.specs.SweepStruct.{sweepLeft}
 use Rattle.c_sweep.proofs.SweepLeft.{sweep-left, both-left}
 use borrow.Author.Needs.{needs}
-use Rattle.uldrevin.proofs.turning_scan.uldrevin_sweep_close.Statement.{statement}
-use Rattle.uldrevin.proofs.turning_scan.uldrevin_sweep_close.Tie as tie
+use Rattle.c_sweep_calls.proofs.answer_close.Statement.{statement}
+use Rattle.c_sweep_calls.proofs.answer_close.Tie as tie
 
 sweep-of-requires : tie.Need-sweep-of-requires
 sweep-of-requires c κs = search needs
@@ -32,8 +32,8 @@ returns c =
       the-lent = (λ i. record { sweep = (answer-sweep-call .ensures .1 ∙ ap (sweepLeft _) (told .the-answer) ∙ sweep-left _ _ _) i; lists = told .the-cells i }) ∙ both-left _ _ _;
     }
 
-pub uldrevin-sweep-close-spec : {M : Type 1} → statement M
-uldrevin-sweep-close-spec =
+pub answer-close-spec : {M : Type 1} → statement M
+answer-close-spec =
     tie.close
     (tie.spec
     sweep-of-requires

@@ -1,12 +1,12 @@
--- `uldrevin::turning_scan::uldrevin_sweep_open` meets its contract, which is that of `sweep::Sweep::open`. Assumes nothing.
+-- `c_sweep_calls::answer_open` meets its contract, which is that of `sweep::Sweep::open`. Assumes nothing.
 use mathlib.Core.Path.{ap, _∙_}
 use Rattle.refusal.specs.Answer.{numberIn}
 use Rattle.refusal.proofs.AnswerLaws.{number-in}
 use Rattle.c_sweep.specs.SweepStruct.{sweepLeft}
 use Rattle.c_sweep.proofs.SweepLeft.{sweep-left, both-left}
 use borrow.Author.Needs.{needs}
-use Rattle.uldrevin.proofs.turning_scan.uldrevin_sweep_open.Statement.{statement}
-use Rattle.uldrevin.proofs.turning_scan.uldrevin_sweep_open.Tie as tie
+use Rattle.c_sweep_calls.proofs.answer_open.Statement.{statement}
+use Rattle.c_sweep_calls.proofs.answer_open.Tie as tie
 
 head-of-requires : tie.Need-head-of-requires
 head-of-requires c κs = search needs
@@ -35,8 +35,8 @@ returns c =
       the-lent = (λ i. record { sweep = (answer-sweep-call .ensures .1 ∙ ap (sweepLeft _) (told .the-answer) ∙ sweep-left _ _ _) i; lists = told .the-sums i }) ∙ both-left _ _ _;
     }
 
-pub uldrevin-sweep-open-spec : {M : Type 1} → statement M
-uldrevin-sweep-open-spec =
+pub answer-open-spec : {M : Type 1} → statement M
+answer-open-spec =
     tie.close
     (tie.spec
     head-of-requires

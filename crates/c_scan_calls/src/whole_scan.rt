@@ -1,0 +1,43 @@
+// The whole scan.
+use c_answers::remap_number;
+use c_structs::head_of;
+ghost use Rattle.refusal.specs.Answer.{Answers};
+ghost use Rattle.scan.specs.LentLists.{lentLists};
+ghost use Rattle.scan.specs.Scan.{scanHeld};
+ghost use Rattle.scan.specs.ScanRefusal.{refusalFor};
+ghost use Rattle.accepted_remap.specs.FilledLists.{filledLists};
+ghost use Rattle.c_structs.specs.Structs.{headOf};
+
+pub fn answer_remap(
+    scan: &[i64; 13],
+    azimuths: &[u32],
+    values: &[u16],
+    qualities: &[u8],
+    ledger: &mut [u32],
+    marks: &mut [u8],
+    counts: &mut [u32],
+    quality_sums: &mut [u32],
+    value_sums: &mut [u64],
+    means: &mut [u16],
+    cell_qualities: &mut [u8],
+) -> u32
+    ensures { λ r.
+        let given = scanHeld (headOf (now (scan .entry))) (azimuths .entry) (values .entry) (qualities .entry) in
+        let lists = lentLists ledger marks counts «quality_sums» «value_sums» means «cell_qualities» in
+        ⌜ Answers (refusalFor given (lists .entry)) (filledLists given) lists r ⌝ }
+{
+    let head = head_of(scan);
+    remap_number(remap::remap(
+        head,
+        azimuths,
+        values,
+        qualities,
+        ledger,
+        marks,
+        counts,
+        quality_sums,
+        value_sums,
+        means,
+        cell_qualities,
+    ))
+}
