@@ -1,6 +1,6 @@
 -- `placement::gate::mark_at` meets its contract: X decides, or Y. Assumes nothing.
 use mathlib.Core.Bool.{Bool, true, false}
-use mathlib.Core.Path.{_≡_}
+use mathlib.Core.Path.{_≡_, _∙_}
 use borrow.Author.Needs.{needs}
 use mir.Facts.{toZ-ofZ}
 use Rattle.arithmetic.proofs.Machine.{fits64}
@@ -20,7 +20,7 @@ module _ (window : Window) (at : Position) {x-test : Bool} (x-is : x-test ≡ ne
 
   y-decides : {y-test : Bool} → x-test ≡ false → y-test ≡ nearLine (window .y) (window .side) (at .y) → y-test ≡ marked window at
   unfolding marked
-  y-decides e y-is = rw (← x-is, e, ← y-is)
+  y-decides e y-is = y-is ∙ rw (← x-is, e)
 
 -- ---- the two tests
 

@@ -1,9 +1,10 @@
 -- `sweep_checks::lengths::group_accepted` meets its contract. Assumes nothing.
-use mathlib.Core.Path.{refl}
+use mathlib.Core.Path.{refl, ap}
 use Prim.Native.Nat.{_*_}
 use native.Mathlib.Omega.{arith}
 use native.Mathlib.Nat.{mul-le-mul}
 use borrow.Author.Tests.{eq-eqb, ne-eqb}
+use lib.Dec.{eqb}
 use Rattle.arithmetic.proofs.Machine.{fits-unsigned}
 use Rattle.sweep_checks.specs.SweepLengths.{groupAccepted}
 use Rattle.sweep_checks.proofs.LengthTests.{exact-length, other-length}
@@ -38,7 +39,7 @@ returns-4 c = rw (ne-eqb _ _ (c .before .before .before .before .before .before 
 
 returns-5 : tie.Need-returns-5
 unfolding groupAccepted
-returns-5 c = rw (ne-eqb _ _ (c .before .before .before .before .before .before .before .before .if1 .left), exact-length (c .before .before .before .before .before .before .if2 .left) refl, exact-length (c .before .before .before .before .if3 .left) refl, exact-length (c .before .if4 .left) (c .before .before .before .gates-of .ensures), c .before .before .before .gates-of .ensures)
+returns-5 c = rw (ne-eqb _ _ (c .before .before .before .before .before .before .before .before .if1 .left), exact-length (c .before .before .before .before .before .before .if2 .left) refl, exact-length (c .before .before .before .before .if3 .left) refl, exact-length (c .before .if4 .left) (c .before .before .before .gates-of .ensures)) (ap (eqb _) (c .before .before .before .gates-of .ensures))
 
 pub group-accepted-spec : {M : Type 1} → statement M
 group-accepted-spec =
