@@ -19,9 +19,11 @@ show "target/bin/ledger < examples/hrap.scan | awk '\$1 == 9 && \$2 >= 3 && \$2 
 say 'Gate 5 of that ray, placed again by itself:'
 show 'target/bin/gate 353300 -972800 2700000 550000 hrap 573 320 6 5'
 say 'The last field is the mark: 1 for a gate 0 to 49 centimetres east or north of an edge line of cells, or 1 to 50 west'
-say 'or south of it. No gate of this scan is marked; at 5.45 km the same ray would have one, 43 centimetres beyond the edge:'
+say 'or south of it. How many gates of this scan are marked:'
+show "target/bin/ledger < examples/hrap.scan | awk 'NR > 1 && \$NF == 1' | wc -l"
+say 'At 5.45 km the same ray would have one, 43 centimetres beyond the edge:'
 show 'target/bin/gate 353300 -972800 2700000 545000 hrap 573 320 6 5'
-say 'Another radar stands on a crossing of two lines. So many of its 80 gates are marked:'
-show "target/bin/ledger < examples/crossing.scan | awk '\$NF == 1' | wc -l"
+say 'Another radar stands on a crossing of two lines. How many of its 80 gates are marked:'
+show "target/bin/ledger < examples/crossing.scan | awk 'NR > 1 && \$NF == 1' | wc -l"
 say 'Its ray 2 looks east, along the line y = -420928583, and bends away from it, by 53 centimetres at gate 8:'
 show "target/bin/ledger < examples/crossing.scan | awk '\$1 == 2 && \$2 >= 6'"

@@ -1,5 +1,5 @@
 -- Document 01, "On both sides of the line": what a case of a single gate says. The table of all cases is crate scan_laws's
--- `markedCases`. Assumes nothing.
+-- `starredCases`. Assumes nothing.
 use mathlib.Core.Path.{_≡_}
 use Prim.Native.Nat.{ℕ, _<_}
 use lib.IntN.{ℤ, pos, negsuc, _+ℤ_}

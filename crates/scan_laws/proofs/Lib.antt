@@ -1,4 +1,4 @@
 pub mod LedgerEntry
 pub mod PlacedTotal
 pub mod WholeScan
-pub mod MarkedCases
+pub mod StarredCases

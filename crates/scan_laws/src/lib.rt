@@ -1,1 +1,1 @@
-// What holds of a whole scan, and the table of marked cases: see specs/ and proofs/.
+// What holds of a whole scan, and the table of starred cases: see specs/ and proofs/.

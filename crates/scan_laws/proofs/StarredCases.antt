@@ -23,7 +23,7 @@ use Rattle.placement.proofs.GateCases.{hrap-meridian, radolan-meridian, mesh-co
 use Rattle.tally.specs.declared.gates.Weighting.{Weighting}
 use Rattle.tally.specs.declared.gates.Weighting.the-variants.{Plain, ByQuality}
 use Rattle.tally.specs.Gates.{isMeasured, echoOf, weighed}
-use Rattle.scan_laws.specs.MarkedCases.{exampleHead, example, exampleScan, exampleWith, RefusedBy, CellsHold, Holds, AllHold, markedCases}
+use Rattle.scan_laws.specs.StarredCases.{exampleHead, example, exampleScan, exampleWith, RefusedBy, CellsHold, Holds, AllHold, starredCases}
 use Rattle.publish.specs.Publish.{meanOf, divisorOf, qualityOf}
 use Rattle.scan.specs.Rays.{rayGates, allGates, regularRays}
 use Rattle.scan.specs.Scan.{raysOf, cellsOf}
@@ -44,8 +44,8 @@ infixr 5 _and_
 _and_ : {A B : Type 0} → A → B → A × B
 a and b = (a, b)
 
-pub every-case : AllHold markedCases
-unfolding AllHold markedCases Holds GateHolds CellsHold exampleGrid anyRadolan exampleHead example exampleScan exampleWith RefusedBy afterwards filledLists talliedSums table meanOf divisorOf qualityOf countOf qualitySumOf valueSumOf sumOver sumTo contributes isMeasured echoOf weighed raysOf refusalFor scanRefusal scanNumber centresAccepted cellsOf qualityAccepted allOf gateRefusal firstRefusal rangeAccepted siteAccepted gridAccepted sizeAccepted azimuthAccepted inRange inSignedRange windowOf indexOf sphereOf hrapSphere radolanSphere
+pub every-case : AllHold starredCases
+unfolding AllHold starredCases Holds GateHolds CellsHold exampleGrid anyRadolan exampleHead example exampleScan exampleWith RefusedBy afterwards filledLists talliedSums table meanOf divisorOf qualityOf countOf qualitySumOf valueSumOf sumOver sumTo contributes isMeasured echoOf weighed raysOf refusalFor scanRefusal scanNumber centresAccepted cellsOf qualityAccepted allOf gateRefusal firstRefusal rangeAccepted siteAccepted gridAccepted sizeAccepted azimuthAccepted inRange inSignedRange windowOf indexOf sphereOf hrapSphere radolanSphere
 every-case =
     hrap-meridian and mesh-column-of-zero and radolan-meridian and west-of-edge and on-edge and west-of-next-edge and on-next-edge
     and (λ lists exact. rw (exact, example-ledger Plain))

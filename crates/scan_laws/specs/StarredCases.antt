@@ -14,25 +14,25 @@ use Rattle.accepted_remap.specs.FilledLists.{filledLists}
 use Rattle.scan.specs.Scan.{Scan}
 use Rattle.scan.specs.ScanRefusal.{listsExact, refusalFor}
 
-pub data MarkedCase : Type 0 where
+pub data StarredCase : Type 0 where
   -- a case of a single gate
-  aGate : GateCase → MarkedCase
+  aGate : GateCase → StarredCase
   -- the example's scan by this weighting, with these values and qualities: afterwards this is the mean of its cell 1
-  cellMean : Weighting → List ℕ → List ℕ → ℕ → MarkedCase
+  cellMean : Weighting → List ℕ → List ℕ → ℕ → StarredCase
   -- the same scan: this is the quality of its cell 1
-  cellQuality : Weighting → List ℕ → List ℕ → ℕ → MarkedCase
+  cellQuality : Weighting → List ℕ → List ℕ → ℕ → StarredCase
   -- the same scan: this is the count of its cell 1
-  cellCount : Weighting → List ℕ → List ℕ → ℕ → MarkedCase
+  cellCount : Weighting → List ℕ → List ℕ → ℕ → StarredCase
   -- the example's scan with this last centre: its refusal number, or 0 where it passes
-  scanLastCentre : ℕ → ℕ → MarkedCase
+  scanLastCentre : ℕ → ℕ → StarredCase
   -- the example's scan with this latitude: the same
-  scanLatitude : ℤ → ℕ → MarkedCase
+  scanLatitude : ℤ → ℕ → StarredCase
   -- the example's scan with this azimuth: the same
-  scanAzimuth : ℕ → ℕ → MarkedCase
+  scanAzimuth : ℕ → ℕ → StarredCase
   -- the example's scan with these values and qualities: the same
-  scanQualities : List ℕ → List ℕ → ℕ → MarkedCase
+  scanQualities : List ℕ → List ℕ → ℕ → StarredCase
   -- the example's scan with no rays and this latitude: the same
-  scanWithoutRays : ℤ → ℕ → MarkedCase
+  scanWithoutRays : ℤ → ℕ → StarredCase
 
 -- the scan that the cases vary: the example of document 01, two gates with a spacing of 100,000
 unfoldable pub exampleHead : ℤ → ℕ → ℕ → Weighting → ScanHead
@@ -68,7 +68,7 @@ unfoldable pub CellsHold : Scan → (Lists → List ℕ) → ℕ → ℕ → Typ
 CellsHold scan list empty given =
     (lists : Lists) → listsExact scan lists ≡ true → list (afterwards (refusalFor scan lists) lists (filledLists scan)) ≡ empty ∷ given ∷ []
 
-unfoldable pub Holds : MarkedCase → Type 0
+unfoldable pub Holds : StarredCase → Type 0
 Holds (aGate case) = GateHolds case
 Holds (cellMean weighting values qualities mean) = CellsHold (exampleScan (example weighting) values qualities) (λ lists. lists .cells .means) 65535 mean
 Holds (cellQuality weighting values qualities quality) = CellsHold (exampleScan (example weighting) values qualities) (λ lists. lists .cells .qualities) 0 quality
@@ -79,13 +79,13 @@ Holds (scanAzimuth given number) = RefusedBy (record { head = example ByQuality;
 Holds (scanQualities values qualities number) = RefusedBy (exampleScan (example ByQuality) values qualities) number
 Holds (scanWithoutRays latitude number) = RefusedBy (record { head = exampleHead latitude 0 100000 ByQuality; azimuths = []; values = []; qualities = [] }) number
 
-unfoldable pub AllHold : List MarkedCase → Type 0
+unfoldable pub AllHold : List StarredCase → Type 0
 AllHold [] = Unit {0}
 AllHold (case ∷ cases) = Holds case × AllHold cases
 
 -- in document 01's order
-unfoldable pub markedCases : List MarkedCase
-markedCases =
+unfoldable pub starredCases : List StarredCase
+starredCases =
     aGate (xIsZero exampleGrid (negsuc 1049999))
     ∷ aGate (meshColumnOfZero (pos 401))
     ∷ aGate (xIsZero anyRadolan (pos 100000))
