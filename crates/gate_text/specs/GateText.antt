@@ -5,7 +5,7 @@ use Prim.Native.Nat.{ℕ, _/_, _%_}
 use Rattle.placement.specs.declared.gate.Placement.{Placement}
 use Rattle.placement.specs.declared.gate.Placement.the-variants.{Inside, Outside, Refused}
 use Rattle.limits.specs.declared.grid.Grid.{Grid}
-use Rattle.placement.specs.Gate.{placementOf}
+use Rattle.placement.specs.Gate.{placementOf, markNumber}
 use Rattle.grid.specs.Window.{windowOf}
 use Rattle.text.specs.DecimalText.{decimalOf, signedDecimalOf, lineOf}
 use Rattle.text.specs.RefusedLine.{refusedWord}
@@ -38,9 +38,9 @@ answerWords columns (Inside cell x y mark) =
     ∷ decimalOf (cell % columns)
     ∷ decimalOf (cell / columns)
     ∷ decimalOf cell
-    ∷ decimalOf (cond mark 1 0)
+    ∷ decimalOf (markNumber mark)
     ∷ []
-answerWords columns (Outside x y mark) = outsideWord ∷ signedDecimalOf x ∷ signedDecimalOf y ∷ decimalOf (cond mark 1 0) ∷ []
+answerWords columns (Outside x y mark) = outsideWord ∷ signedDecimalOf x ∷ signedDecimalOf y ∷ decimalOf (markNumber mark) ∷ []
 answerWords columns (Refused number) = refusedWord ∷ decimalOf number ∷ []
 
 module _ (words : List ℕ) where

@@ -3,7 +3,7 @@ ghost use mathlib.Core.Path.{_≡_};
 ghost use Rattle.grid.specs.Mark.{pastLine, nearLine};
 ghost use Rattle.grid.specs.LineRoom.{LineRoom};
 
-// Demand 3's, in centimetres.
+// How far a coordinate may lie from the exact one, in centimetres: demand 3.
 const TOLERANCE: u64 = 50;
 
 // How far a coordinate lies past the line of its own column or row.

@@ -6,7 +6,7 @@ use lib.Dec.{eqb, ltb}
 use lib.ListN.{getD}
 use Rattle.placement.specs.declared.gate.Placement.{Placement}
 use Rattle.placement.specs.declared.gate.Placement.the-variants.{Inside, Outside, Refused}
-use Rattle.placement.specs.Gate.{placementOf}
+use Rattle.placement.specs.Gate.{placementOf, markNumber}
 use Rattle.grid.specs.Window.{windowOf}
 use Rattle.scan.specs.Scan.{gatesOf}
 use Rattle.record_layout.specs.RecordPlaces.{headIn, azimuthsIn, valuesIn, qualitiesIn}
@@ -21,8 +21,8 @@ outsideWord = 111 ∷ 117 ∷ 116 ∷ 115 ∷ 105 ∷ 100 ∷ 101 ∷ []
 -- a cell is row x columns + column; a gate of a good record is never refused (proofs/NeverRefused.antt)
 unfoldable pub placementWords : ℕ → Placement → List (List ℕ)
 placementWords columns (Inside cell x y mark) =
-    signedDecimalOf x ∷ signedDecimalOf y ∷ decimalOf (cell % columns) ∷ decimalOf (cell / columns) ∷ decimalOf (cond mark 1 0) ∷ []
-placementWords columns (Outside x y mark) = signedDecimalOf x ∷ signedDecimalOf y ∷ outsideWord ∷ decimalOf (cond mark 1 0) ∷ []
+    signedDecimalOf x ∷ signedDecimalOf y ∷ decimalOf (cell % columns) ∷ decimalOf (cell / columns) ∷ decimalOf (markNumber mark) ∷ []
+placementWords columns (Outside x y mark) = signedDecimalOf x ∷ signedDecimalOf y ∷ outsideWord ∷ decimalOf (markNumber mark) ∷ []
 placementWords columns (Refused number) = refusedWord ∷ decimalOf number ∷ []
 
 -- gate k of the scan is gate k mod gates of ray k div gates, with its centre at first + gate x spacing

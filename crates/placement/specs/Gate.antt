@@ -1,5 +1,5 @@
 -- The placement of one gate: its cell, position and mark, or outside, position and mark, or a refusal. Assumes nothing.
-use mathlib.Core.Bool.{cond}
+use mathlib.Core.Bool.{Bool, cond}
 use Prim.Native.Nat.{ℕ, zero, suc}
 use lib.IntN.{ℤ}
 use Rattle.placement.specs.declared.gate.Placement.{Placement}
@@ -34,10 +34,14 @@ entryOf (Inside cell x y mark) = cell
 entryOf (Outside x y mark) = outsideEntry
 entryOf (Refused number) = outsideEntry
 
--- the mark, 1 or 0; a refused gate has none
+-- 1 or 0
+abbrev pub markNumber : Bool → ℕ
+markNumber mark = cond mark 1 0
+
+-- the mark; a refused gate has none
 unfoldable pub markOf : Placement → ℕ
-markOf (Inside cell x y mark) = cond mark 1 0
-markOf (Outside x y mark) = cond mark 1 0
+markOf (Inside cell x y mark) = markNumber mark
+markOf (Outside x y mark) = markNumber mark
 markOf (Refused number) = 0
 
 -- what is told of a gate that is not refused: its entry, its position and its mark
@@ -49,8 +53,8 @@ pub record PlacedGate : Type 0 where
 
 -- these four numbers, or the refusal number
 unfoldable pub placementAnswer : Placement → Answer PlacedGate
-placementAnswer (Inside cell x y mark) = gives (record { entry = cell; x = x; y = y; mark = cond mark 1 0 })
-placementAnswer (Outside x y mark) = gives (record { entry = outsideEntry; x = x; y = y; mark = cond mark 1 0 })
+placementAnswer (Inside cell x y mark) = gives (record { entry = cell; x = x; y = y; mark = markNumber mark })
+placementAnswer (Outside x y mark) = gives (record { entry = outsideEntry; x = x; y = y; mark = markNumber mark })
 placementAnswer (Refused number) = refuses number
 
 -- those of documents 01 and 02

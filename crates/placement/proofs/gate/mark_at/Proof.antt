@@ -1,7 +1,6 @@
 -- `placement::gate::mark_at` meets its contract: X decides, or Y. Assumes nothing.
 use mathlib.Core.Bool.{Bool, true, false}
 use mathlib.Core.Path.{_≡_, _∙_}
-use borrow.Author.Needs.{needs}
 use mir.Facts.{toZ-ofZ}
 use Rattle.arithmetic.proofs.Machine.{fits64}
 use Rattle.grid.specs.declared.window.Window.{Window}
