@@ -3,12 +3,7 @@ use c_answers::answer_gate;
 use c_structs::grid_at;
 use c_structs::site_at;
 use refusal::unsigned32;
-ghost use Rattle.refusal.specs.Answer.{Answers};
-ghost use Rattle.refusal.specs.Unsigned as spec;
-ghost use Rattle.placement.specs.Gate.{placedGate};
-ghost use Rattle.placement.specs.GateRefusal.{gateRefusal};
-ghost use Rattle.c_answers.specs.LentNumbers.{lentGate};
-ghost use Rattle.c_structs.specs.Structs.{siteAt, gridAt, gridOf};
+ghost use Rattle.c_scan_calls.specs.ScanCalls.{PlacesGate};
 
 pub fn answer_place(
     site: &[i64; 2],
@@ -20,13 +15,7 @@ pub fn answer_place(
     y: &mut i64,
     mark: &mut u8,
 ) -> u32
-    ensures { λ r.
-        let at = siteAt (now (site .entry)) 0 in
-        let on = gridOf (gridAt (now (grid .entry)) 0) in
-        ⌜ Answers
-        (gateRefusal at on (spec.unsigned32 azimuth) (spec.unsigned32 range))
-        (placedGate at on (spec.unsigned32 azimuth) (spec.unsigned32 range))
-        (lentGate cell x y mark) r ⌝ }
+    ensures { λ r. ⌜ PlacesGate site grid azimuth range cell x y mark r ⌝ }
 {
     answer_gate(
         placement::place(

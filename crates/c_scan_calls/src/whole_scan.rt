@@ -1,12 +1,7 @@
 // The whole scan.
 use c_answers::remap_number;
 use c_structs::head_of;
-ghost use Rattle.refusal.specs.Answer.{Answers};
-ghost use Rattle.scan.specs.LentLists.{lentLists};
-ghost use Rattle.scan.specs.Scan.{scanHeld};
-ghost use Rattle.scan.specs.ScanRefusal.{refusalFor};
-ghost use Rattle.accepted_remap.specs.FilledLists.{filledLists};
-ghost use Rattle.c_structs.specs.Structs.{headOf};
+ghost use Rattle.c_scan_calls.specs.ScanCalls.{RemapsScan};
 
 pub fn answer_remap(
     scan: &[i64; 13],
@@ -21,10 +16,7 @@ pub fn answer_remap(
     means: &mut [u16],
     cell_qualities: &mut [u8],
 ) -> u32
-    ensures { λ r.
-        let given = scanHeld (headOf (now (scan .entry))) (azimuths .entry) (values .entry) (qualities .entry) in
-        let lists = lentLists ledger marks counts «quality_sums» «value_sums» means «cell_qualities» in
-        ⌜ Answers (refusalFor given (lists .entry)) (filledLists given) lists r ⌝ }
+    ensures { λ r. ⌜ RemapsScan scan azimuths values qualities ledger marks counts «quality_sums» «value_sums» means «cell_qualities» r ⌝ }
 {
     let head = head_of(scan);
     remap_number(remap::remap(

@@ -4,17 +4,7 @@ use c_structs::head_of;
 use c_sweep::answer_sweep;
 use c_sweep::sweep_of;
 use sweep::Sweep;
-ghost use Rattle.refusal.specs.Answer.{Answers};
-ghost use Rattle.tally.specs.LentSums.{sumsHeld, lentSums, lentCells};
-ghost use Rattle.tally.specs.Tally.{cleared};
-ghost use Rattle.publish.specs.Publish.{publishedCells};
-ghost use Rattle.scan.specs.Scan.{cellsOf};
-ghost use Rattle.accepted_take.specs.RayGroup.{groupHeld, lentRayLists};
-ghost use Rattle.accepted_take.specs.TakenLists.{takenLists};
-ghost use Rattle.sweep.specs.SweepOperations.{openRefusal, opened, raysRefusal, counted, closeRefusal, ended};
-ghost use Rattle.c_structs.specs.Structs.{headOf};
-ghost use Rattle.c_sweep.specs.SweepStruct.{sweepOf, sweepNumbers};
-ghost use Rattle.c_sweep.specs.LentSweep.{withSweep};
+ghost use Rattle.c_sweep_calls.specs.SweepCalls.{OpensSweep, TakesRays, ClosesSweep};
 
 pub fn answer_open(
     scan: &[i64; 13],
@@ -23,10 +13,7 @@ pub fn answer_open(
     value_sums: &mut [u64],
     sweep: &mut [i64; 15],
 ) -> u32
-    ensures { λ r.
-        let head = headOf (now (scan .entry)) in
-        let lent = withSweep sweep (lentSums counts «quality_sums» «value_sums») in
-        ⌜ Answers (openRefusal head (lent .entry .lists)) (record { sweep = sweepNumbers (opened head); lists = cleared (lent .entry .lists) }) lent r ⌝ }
+    ensures { λ r. ⌜ OpensSweep scan counts «quality_sums» «value_sums» sweep r ⌝ }
 {
     answer_sweep(
         Sweep::open(head_of(scan), counts, quality_sums, value_sums),
@@ -45,11 +32,7 @@ pub fn answer_take(
     quality_sums: &mut [u32],
     value_sums: &mut [u64],
 ) -> u32
-    ensures { λ r.
-        let state = sweepOf (now (sweep .entry)) in
-        let group = groupHeld (azimuths .entry) (values .entry) (qualities .entry) in
-        let lent = withSweep sweep (lentRayLists ledger marks counts «quality_sums» «value_sums») in
-        ⌜ Answers (raysRefusal state group (lent .entry .lists)) (record { sweep = sweepNumbers (counted state group); lists = takenLists (state .head) (state .taken) group (lent .entry .lists) }) lent r ⌝ }
+    ensures { λ r. ⌜ TakesRays sweep azimuths values qualities ledger marks counts «quality_sums» «value_sums» r ⌝ }
 {
     let state = sweep_of(sweep);
     answer_sweep(
@@ -75,11 +58,7 @@ pub fn answer_close(
     means: &mut [u16],
     cell_qualities: &mut [u8],
 ) -> u32
-    ensures { λ r.
-        let state = sweepOf (now (sweep .entry)) in
-        let sums = sumsHeld (counts .entry) («quality_sums» .entry) («value_sums» .entry) in
-        let lent = withSweep sweep (lentCells means «cell_qualities») in
-        ⌜ Answers (closeRefusal state sums (lent .entry .lists)) (record { sweep = sweepNumbers (ended state); lists = publishedCells (state .head .weighting) sums (cellsOf (state .head)) }) lent r ⌝ }
+    ensures { λ r. ⌜ ClosesSweep sweep counts «quality_sums» «value_sums» means «cell_qualities» r ⌝ }
 {
     let state = sweep_of(sweep);
     answer_sweep(

@@ -3,17 +3,7 @@
 use c_sweep_calls::answer_close;
 use c_sweep_calls::answer_open;
 use c_sweep_calls::answer_take;
-ghost use Rattle.refusal.specs.Answer.{Answers};
-ghost use Rattle.tally.specs.LentSums.{sumsHeld, lentSums, lentCells};
-ghost use Rattle.tally.specs.Tally.{cleared};
-ghost use Rattle.publish.specs.Publish.{publishedCells};
-ghost use Rattle.scan.specs.Scan.{cellsOf};
-ghost use Rattle.accepted_take.specs.RayGroup.{groupHeld, lentRayLists};
-ghost use Rattle.accepted_take.specs.TakenLists.{takenLists};
-ghost use Rattle.sweep.specs.SweepOperations.{openRefusal, opened, raysRefusal, counted, closeRefusal, ended};
-ghost use Rattle.c_structs.specs.Structs.{headOf};
-ghost use Rattle.c_sweep.specs.SweepStruct.{sweepOf, sweepNumbers};
-ghost use Rattle.c_sweep.specs.LentSweep.{withSweep};
+ghost use Rattle.c_sweep_calls.specs.SweepCalls.{OpensSweep, TakesRays, ClosesSweep};
 
 #[no_mangle]
 pub extern "C" fn uldrevin_sweep_open(
@@ -23,10 +13,7 @@ pub extern "C" fn uldrevin_sweep_open(
     value_sums: &mut [u64],
     sweep: &mut [i64; 15],
 ) -> u32
-    ensures { λ r.
-        let head = headOf (now (scan .entry)) in
-        let lent = withSweep sweep (lentSums counts «quality_sums» «value_sums») in
-        ⌜ Answers (openRefusal head (lent .entry .lists)) (record { sweep = sweepNumbers (opened head); lists = cleared (lent .entry .lists) }) lent r ⌝ }
+    ensures { λ r. ⌜ OpensSweep scan counts «quality_sums» «value_sums» sweep r ⌝ }
 {
     answer_open(scan, counts, quality_sums, value_sums, sweep)
 }
@@ -43,11 +30,7 @@ pub extern "C" fn uldrevin_sweep_take(
     quality_sums: &mut [u32],
     value_sums: &mut [u64],
 ) -> u32
-    ensures { λ r.
-        let state = sweepOf (now (sweep .entry)) in
-        let group = groupHeld (azimuths .entry) (values .entry) (qualities .entry) in
-        let lent = withSweep sweep (lentRayLists ledger marks counts «quality_sums» «value_sums») in
-        ⌜ Answers (raysRefusal state group (lent .entry .lists)) (record { sweep = sweepNumbers (counted state group); lists = takenLists (state .head) (state .taken) group (lent .entry .lists) }) lent r ⌝ }
+    ensures { λ r. ⌜ TakesRays sweep azimuths values qualities ledger marks counts «quality_sums» «value_sums» r ⌝ }
 {
     answer_take(
         sweep,
@@ -71,11 +54,7 @@ pub extern "C" fn uldrevin_sweep_close(
     means: &mut [u16],
     cell_qualities: &mut [u8],
 ) -> u32
-    ensures { λ r.
-        let state = sweepOf (now (sweep .entry)) in
-        let sums = sumsHeld (counts .entry) («quality_sums» .entry) («value_sums» .entry) in
-        let lent = withSweep sweep (lentCells means «cell_qualities») in
-        ⌜ Answers (closeRefusal state sums (lent .entry .lists)) (record { sweep = sweepNumbers (ended state); lists = publishedCells (state .head .weighting) sums (cellsOf (state .head)) }) lent r ⌝ }
+    ensures { λ r. ⌜ ClosesSweep sweep counts «quality_sums» «value_sums» means «cell_qualities» r ⌝ }
 {
     answer_close(
         sweep,

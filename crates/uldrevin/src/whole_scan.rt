@@ -1,11 +1,6 @@
 // The whole scan. The answer is 0, with the lent lists written, or the refusal number, with all of them as they came in.
 use c_scan_calls::answer_remap;
-ghost use Rattle.refusal.specs.Answer.{Answers};
-ghost use Rattle.scan.specs.LentLists.{lentLists};
-ghost use Rattle.accepted_remap.specs.FilledLists.{filledLists};
-ghost use Rattle.scan.specs.Scan.{scanHeld};
-ghost use Rattle.scan.specs.ScanRefusal.{refusalFor};
-ghost use Rattle.c_structs.specs.Structs.{headOf};
+ghost use Rattle.c_scan_calls.specs.ScanCalls.{RemapsScan};
 
 #[no_mangle]
 pub extern "C" fn uldrevin_remap(
@@ -21,10 +16,7 @@ pub extern "C" fn uldrevin_remap(
     means: &mut [u16],
     cell_qualities: &mut [u8],
 ) -> u32
-    ensures { λ r.
-        let given = scanHeld (headOf (now (scan .entry))) (azimuths .entry) (values .entry) (qualities .entry) in
-        let lists = lentLists ledger marks counts «quality_sums» «value_sums» means «cell_qualities» in
-        ⌜ Answers (refusalFor given (lists .entry)) (filledLists given) lists r ⌝ }
+    ensures { λ r. ⌜ RemapsScan scan azimuths values qualities ledger marks counts «quality_sums» «value_sums» means «cell_qualities» r ⌝ }
 {
     answer_remap(
         scan,
