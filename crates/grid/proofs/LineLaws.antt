@@ -7,10 +7,14 @@ use lib.Dec.{leb, ltb}
 use lib.IntN.{ℤ, pos, _-ℤ_, _*ℤ_}
 use Rattle.arithmetic.specs.Magnitude.{Magnitude}
 use Rattle.arithmetic.proofs.Floor.{modulo-below, past-floor}
-use Rattle.arithmetic.proofs.Magnitude.{magnitude-difference, magnitude-product, magnitude-floor, magnitude-pos}
+use Rattle.arithmetic.proofs.Integer.{as-difference, same-difference, differences}
+use Rattle.arithmetic.proofs.Magnitude.{magnitude-difference, magnitude-pos}
 use Rattle.grid.specs.Mark.{tolerance, pastLine, nearLine}
 use Rattle.grid.specs.Window.{indexOf}
 use Rattle.grid.specs.LineRoom.{LineRoom}
+
+other-part : (a b c : ℤ) → a -ℤ b ≡ c → b ≡ a -ℤ c
+other-part a b c e = rw (← e, as-difference a, as-difference b) (simp differences (same-difference _ _ _ _ (omega arith)))
 
 module _ {corner : ℤ} {side : ℕ} {x index : ℤ} (room : LineRoom corner side x index) where
   positive : 0 < side
@@ -19,13 +23,7 @@ module _ {corner : ℤ} {side : ℕ} {x index : ℤ} (room : LineRoom corner sid
   pub from-corner : Magnitude (x -ℤ corner) 20000000000
   from-corner = magnitude-difference (room .x-limit) (room .corner-limit)
 
-  index-limit : Magnitude index 2000000
-  unfolding indexOf
-  index-limit = rw (room .index-is) (magnitude-floor 2000000 side positive (omega (arith, room .side-least)) from-corner)
-
-  pub line-limit : Magnitude (index *ℤ pos side) 20000000000000
-  line-limit = magnitude-product index-limit (magnitude-pos (room .side-most))
-
+  -- the remainder is what is left past the line of the coordinate's own column or row
   pub past-is : x -ℤ corner -ℤ index *ℤ pos side ≡ pos (pastLine corner side x)
   unfolding pastLine indexOf
   past-is = rw (room .index-is) (past-floor (x -ℤ corner) side positive)
@@ -33,6 +31,12 @@ module _ {corner : ℤ} {side : ℕ} {x index : ℤ} (room : LineRoom corner sid
   pub past-below : pastLine corner side x < side
   unfolding pastLine
   past-below = modulo-below (x -ℤ corner) side positive
+
+  -- so the line is no farther from the corner than the coordinate and one side
+  pub line-limit : Magnitude (index *ℤ pos side) 20010000000
+  line-limit =
+      rw (other-part (x -ℤ corner) (index *ℤ pos side) (pos (pastLine corner side x)) past-is)
+      (magnitude-difference from-corner (magnitude-pos {n = pastLine corner side x} {m = 10000000} (omega (arith, past-below, room .side-most))))
 
 -- ---- the first test decides, or the second
 
