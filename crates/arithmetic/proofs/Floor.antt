@@ -51,10 +51,20 @@ modulo-only (pos a) m r h = small-division a m r h .1
 modulo-only (negsuc a) m r h =
     rw (under-multiple a m r h, small-division a m (m - suc r) (omega arith) .1) (omega arith)
 
--- ---- the remainder of a sum
+-- ---- the floor and the remainder of a sum
+
 carried : (z q : ℤ) (m r k a b : ℕ) → z ≡ q *ℤ pos m +ℤ pos r → a * m + b ≡ r + k → z +ℤ pos k ≡ (q +ℤ pos a) *ℤ pos m +ℤ pos b
 carried z q m r k a b e f =
     rw (e, as-difference q) (simp differences (same-difference _ _ _ _ (omega arith)))
+
+none-left : (q : ℤ) (m : ℕ) → q *ℤ pos m ≡ q *ℤ pos m +ℤ pos 0
+none-left q m = rw (as-difference q) (simp differences (same-difference _ _ _ _ (omega arith)))
+
+-- of whole numbers of m and k more
+pub floor-of-sum : (q : ℤ) (m k : ℕ) → 0 < m → (q *ℤ pos m +ℤ pos k) ÷ m ≡ q +ℤ pos (k / m)
+floor-of-sum q m k h =
+    rw (carried (q *ℤ pos m) q m 0 k (k / m) (k % m) (none-left q m) (omega (arith, div-add-mod' k m)))
+    (floor-only (q +ℤ pos (k / m)) m (k % m) (mod-lt k h))
 
 pub modulo-sum : (z : ℤ) (k m : ℕ) → 0 < m → (z +ℤ pos k) modulo m ≡ (z modulo m + k) % m
 modulo-sum z k m h =

@@ -6,7 +6,7 @@ use native.Mathlib.Omega.{arith}
 use lib.IntN.{ℤ, pos, negsuc, _+ℤ_, _-ℤ_, _*ℤ_, negℤ, natAbs}
 use Rattle.arithmetic.specs.Floor.{_÷_}
 use Rattle.arithmetic.specs.Magnitude.{Magnitude}
-use Rattle.arithmetic.proofs.Integer.{above, below, is-sum}
+use Rattle.arithmetic.proofs.Integer.{above, below, is-sum, as-difference, same-difference, differences}
 
 -- ---- the magnitude itself
 
@@ -26,8 +26,23 @@ natAbs-sum x y = go (x +ℤ y) (is-sum x y)
     go (pos n) e = omega (arith, natAbs-parts x, natAbs-parts y)
     go (negsuc n) e = omega (arith, natAbs-parts x, natAbs-parts y)
 
+put-back : (x y : ℤ) → (x -ℤ y) +ℤ y ≡ x
+put-back x y = rw (as-difference x, as-difference y) (simp differences (same-difference _ _ _ _ (omega arith)))
+
 pub natAbs-difference : (x y : ℤ) → natAbs (x -ℤ y) ≤ natAbs x + natAbs y
 natAbs-difference x y = rw (← (natAbs-negation y)) (natAbs-sum x (negℤ y))
+
+-- no part is greater than what is left of it and what was taken away
+pub natAbs-rest : (x y : ℤ) → natAbs x ≤ natAbs (x -ℤ y) + natAbs y
+natAbs-rest x y = rw (put-back x y) at (natAbs-sum (x -ℤ y) y)
+
+-- a number less one of no greater magnitude is not negative
+pub natural-difference : (a : ℕ) (z : ℤ) → natAbs z ≤ a → pos a -ℤ z ≡ pos (natAbs (pos a -ℤ z))
+natural-difference a z h = go (pos a -ℤ z) (is-sum (pos a) (negℤ z))
+  where
+    go : (w : ℤ) → above w + (below (pos a) + below (negℤ z)) ≡ (above (pos a) + above (negℤ z)) + below w → w ≡ pos (natAbs w)
+    go (pos n) e = refl
+    go (negsuc n) e = absurd (omega (arith, natAbs-parts (negℤ z), natAbs-negation z))
 
 pub natAbs-product : (x y : ℤ) → natAbs (x *ℤ y) ≡ natAbs x * natAbs y
 natAbs-product (pos a) (pos b) = refl

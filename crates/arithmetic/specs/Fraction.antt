@@ -1,6 +1,7 @@
 -- Fractions of whole numbers, not reduced. A denominator is a natural number; the laws ask that it is not 0. Assumes nothing.
 use Prim.Native.Nat.{ℕ, _*_}
 use lib.IntN.{ℤ, pos, _+ℤ_, _*ℤ_, negℤ, natAbs}
+use Rattle.arithmetic.specs.Floor.{_÷_}
 
 pub record Fraction : Type 0 where
   pub num : ℤ
@@ -28,3 +29,7 @@ f ⊗ g = record { num = f .num *ℤ g .num; den = f .den * g .den }
 -- quotient by a positive fraction
 unfoldable pub _⊘_ : Fraction → Fraction → Fraction
 f ⊘ g = record { num = f .num *ℤ pos (g .den); den = f .den * natAbs (g .num) }
+
+-- the greatest whole number that is not above it
+unfoldable pub floor : Fraction → ℤ
+floor f = f .num ÷ f .den

@@ -19,6 +19,11 @@ pub record Near (s hundredths limit : ℕ) (x : ℤ) (f : Fraction) : Type 0 whe
   pub close : natAbs (error s x f) * 100 ≤ hundredths * f .den
   pub size : s * natAbs (f .num) ≤ limit * f .den
 
+-- x less the fraction f is from -bound to bound; f is a fraction: its denominator is not 0
+pub record Within (bound : ℕ) (x : ℤ) (f : Fraction) : Type 0 where
+  pub positive : 0 < f .den
+  pub close : natAbs (x *ℤ pos (f .den) -ℤ f .num) ≤ bound * f .den
+
 -- x is the nearest whole number to s times f: no other whole number is as near
 pub record Nearest (s : ℕ) (f : Fraction) (x : ℤ) : Type 0 where
   pub positive : 0 < f .den

@@ -1,3 +1,4 @@
 pub mod Cells
 pub mod LineLaws
+pub mod ExactIndex
 pub mod SphereRule

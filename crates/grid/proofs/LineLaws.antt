@@ -1,4 +1,5 @@
 -- A coordinate past the line of its own column or row. Assumes nothing.
+use mathlib.Core.Bool.{_||_}
 use mathlib.Core.Path.{_≡_}
 use Prim.Native.Nat.{ℕ, _-_, _<_, _≤_}
 use native.Mathlib.Omega.{arith}
@@ -9,7 +10,7 @@ use Rattle.arithmetic.specs.Magnitude.{Magnitude}
 use Rattle.arithmetic.proofs.Floor.{modulo-below, past-floor}
 use Rattle.arithmetic.proofs.Integer.{as-difference, same-difference, differences}
 use Rattle.arithmetic.proofs.Magnitude.{magnitude-difference, magnitude-pos}
-use Rattle.grid.specs.Mark.{tolerance, pastLine, nearLine}
+use Rattle.grid.specs.Mark.{pastLine}
 use Rattle.grid.specs.Window.{indexOf}
 use Rattle.grid.specs.LineRoom.{LineRoom}
 
@@ -40,11 +41,9 @@ module _ {corner : ℤ} {side : ℕ} {x index : ℤ} (room : LineRoom corner sid
 
 -- ---- the first test decides, or the second
 
-module _ (corner : ℤ) (side : ℕ) (x : ℤ) {past : ℕ} (is : past ≡ pastLine corner side x) where
-  pub first-decides : past < tolerance → ltb past tolerance ≡ nearLine corner side x
-  unfolding nearLine
-  first-decides h = rw (← is, lt-ltb past tolerance h)
+module _ (side : ℕ) {past rest : ℕ} (is : past ≡ rest) {width : ℕ} where
+  pub first-decides : past < width → ltb past width ≡ (ltb rest width || leb (side - width) rest)
+  first-decides h = rw (← is, lt-ltb past width h)
 
-  pub second-decides : tolerance ≤ past → leb (side - tolerance) past ≡ nearLine corner side x
-  unfolding nearLine
-  second-decides h = rw (← is, le-ltb past tolerance h)
+  pub second-decides : width ≤ past → leb (side - width) past ≡ (ltb rest width || leb (side - width) rest)
+  second-decides h = rw (← is, le-ltb past width h)

@@ -1,9 +1,11 @@
--- The cells of a grid: document 01, "The scan" for corner and side, "Projection" for column and row. Assumes nothing.
+-- The cells of a grid: document 01, "The scan" for corner and side, "Projection" for column and row; document 02, T-10, for the column and row of an
+-- exact position. A star marks an exact value. Assumes nothing.
 use mathlib.Core.Bool.{Bool, _&&_}
 use Prim.Native.Nat.{ℕ, _+_, _*_}
 use lib.IntN.{ℤ, pos, _-ℤ_, _*ℤ_, natAbs}
 use lib.Signed.{leZ, ltZ}
 use Rattle.arithmetic.specs.Floor.{_÷_}
+use Rattle.arithmetic.specs.Fraction.{Fraction, whole, floor, _⊖_, _⊘_}
 use Rattle.limits.specs.declared.grid.Grid.{Grid}
 use Rattle.limits.specs.declared.grid.Grid.the-variants.{Radolan, Hrap}
 use Rattle.grid.specs.declared.window.Window.{Window}
@@ -22,6 +24,10 @@ windowOf (Hrap g) = record {
 -- floor((X - corner x) / side), and the same for Y
 unfoldable pub indexOf : ℤ → ℕ → ℤ → ℤ
 indexOf corner side x = (x -ℤ corner) ÷ side
+
+-- the same of an exact coordinate: the floor of the fraction less the corner, by the side
+unfoldable pub indexOf* : ℤ → ℕ → Fraction → ℤ
+indexOf* corner side x = floor ((x ⊖ whole corner) ⊘ whole (pos side))
 
 -- from 0 to count - 1
 unfoldable pub inSpan : ℕ → ℤ → Bool

@@ -21,7 +21,7 @@ use Rattle.limits.proofs.Accepted.{accepted-site, accepted-radolan, accepted-hr
 use Rattle.projection.proofs.GateTerms.{good-sphere, site-limits, sound-of}
 use Rattle.projection.proofs.PositionBounds.{X-limit, Y-limit}
 
-window-limits : (grid : Grid) → gridAccepted grid ≡ true → WindowLimits (windowOf grid)
+pub window-limits : (grid : Grid) → gridAccepted grid ≡ true → WindowLimits (windowOf grid)
 unfolding windowOf
 window-limits (Radolan g) e =
     let known = accepted-radolan g e in

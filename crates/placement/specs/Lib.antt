@@ -4,4 +4,5 @@ pub mod CellRoom
 pub mod Gate
 pub mod Survey
 pub mod GateNearness
+pub mod ExactCell
 pub mod GateCases

@@ -23,6 +23,7 @@ ghost use Prim.Native.Nat.{_≤_};
 ghost use Rattle.refusal.specs.Answer.{answered};
 ghost use Rattle.placement.specs.Gate.{placementOf, placementAnswer, placedGate};
 ghost use Rattle.placement.specs.GateNearness.{PositionWithin};
+ghost use Rattle.placement.specs.ExactCell.{ExactUnlessMarked};
 ghost use Rattle.projection.specs.Position.{positionOf};
 ghost use Rattle.limits.specs.Accepted.{rangeAccepted, siteAccepted, gridAccepted};
 ghost use Rattle.placement.specs.GateRefusal.{gateRefusal};
@@ -51,11 +52,13 @@ pub enum Placement {
 }
 
 // Takes any site, grid, azimuth and range whatever. It answers inside, outside or refused, with document 01's numbers. Demand 3: whenever
-// the answer is a position, X and Y each lie within 50 centimetres of the exact ones.
+// the answer is a position, X and Y each lie within 50 centimetres of the exact ones. Document 02, T-10: a gate that is not marked has the very
+// cell that the exact reference gives, or is outside in both.
 pub fn place(site: Site, grid: Grid, azimuth: u32, range: u32) -> Placement
     ensures rule { λ r. ⌜ r ≡ placementOf site grid azimuth range ⌝ }
     ensures numbers { λ r. ⌜ placementAnswer r ≡ answered (gateRefusal site grid azimuth range) (placedGate site grid azimuth range) ⌝ }
     ensures within_50_centimetres { λ r. ⌜ PositionWithin tolerance site grid azimuth range r ⌝ }
+    ensures exact_unless_marked { λ r. ⌜ ExactUnlessMarked site grid azimuth range r ⌝ }
 {
     if !range_accepted(range) {
         return Placement::Refused(3);

@@ -7,7 +7,7 @@ use native.Mathlib.Omega.{arith}
 use lib.Dec.{lit<, lit≤}
 use lib.IntN.{ℤ, pos, natAbs, _+ℤ_, _-ℤ_, _*ℤ_}
 use Rattle.arithmetic.specs.Fraction.{Fraction}
-use Rattle.arithmetic.specs.Nearness.{Near, gap}
+use Rattle.arithmetic.specs.Nearness.{Near, Within, gap}
 use Rattle.arithmetic.proofs.Integer.{as-difference, same-difference, differences}
 use Rattle.arithmetic.proofs.Nearness.{near-whole, near-sum, near-opposite, near-product, near-floor, near-weaken}
 use Rattle.arithmetic.proofs.Quotient.{near-quotient, divisor-fraction-positive}
@@ -20,7 +20,7 @@ use Rattle.limits.specs.declared.site.Site.{Site}
 use Rattle.projection.specs.declared.position.SiteTerms.{SiteTerms}
 use Rattle.projection.specs.Arc.{arcTerms}
 use Rattle.projection.specs.ExactPosition.{w*, e*, n*, m*, u*, v*, divisor*, X*, Y*, sp*, cp*, sl*, cl*, sa*, ca*}
-use Rattle.projection.specs.Nearness.{Within, positionError}
+use Rattle.projection.specs.Nearness.{positionError}
 use Rattle.projection.specs.Position.{siteTerms, rayTerms, w, e, n, m, u, v, divisor, X, Y}
 use Rattle.projection.proofs.ArcNear.{sd-near, cd-near}
 use Rattle.projection.proofs.GateTerms.{GoodSphere, GoodGate, sound}

@@ -2,7 +2,7 @@
 use mathlib.Core.Path.{_≡_}
 use borrow.Author.Needs.{needs}
 use mir.Facts.{toZ-ofZ}
-use Rattle.grid.specs.Mark.{pastLine}
+use Rattle.grid.specs.Mark.{pastLine, nearLine}
 use Rattle.grid.proofs.LineLaws.{first-decides, second-decides}
 use Rattle.grid.proofs.mark.near_line.Statement.{statement}
 use Rattle.grid.proofs.mark.near_line.Tie as tie
@@ -17,10 +17,12 @@ sub-result : tie.Need-sub-result
 sub-result c = search needs
 
 returns : tie.Need-returns
-returns c = first-decides _ _ _ (past-is (c .before)) (c .if1 .taken)
+unfolding nearLine
+returns c = first-decides _ (past-is (c .before)) (c .if1 .taken)
 
 returns-2 : tie.Need-returns-2
-returns-2 c = second-decides _ _ _ (past-is (c .before)) (c .if1 .left)
+unfolding nearLine
+returns-2 c = second-decides _ (past-is (c .before)) (c .if1 .left)
 
 pub near-line-spec : {M : Type 1} → statement M
 near-line-spec = tie.close (tie.spec past-line-requires sub-result returns returns-2)

@@ -1,5 +1,5 @@
--- `placement::gate::place` meets its contract: each refusal is the definition's first, and an accepted gate's position is near the
--- exact one. Assumes nothing.
+-- `placement::gate::place` meets its contract: each refusal is the definition's first, an accepted gate's position is near the exact one, and
+-- so is its cell the exact one where it is not marked. Assumes nothing.
 use mathlib.Core.Path.{_≡_, sym, subst, _∙_}
 use mathlib.Core.Bool.{true, false}
 use borrow.Author.Needs.{needs}
@@ -9,10 +9,12 @@ use Rattle.placement.specs.declared.gate.Placement.{Placement}
 use Rattle.placement.specs.declared.gate.Placement.the-variants.{Refused}
 use Rattle.placement.specs.Gate.{unlessRefused, placementOf}
 use Rattle.placement.specs.GateNearness.{PositionWithin}
+use Rattle.placement.specs.ExactCell.{ExactUnlessMarked}
 use Rattle.limits.specs.Accepted.{rangeAccepted, siteAccepted, gridAccepted, azimuthAccepted}
 use Rattle.refusal.specs.Checks.{firstRefusal}
 use Rattle.placement.specs.GateRefusal.{gateRefusal}
 use Rattle.placement.proofs.GateNear.{located-within}
+use Rattle.placement.proofs.ExactCell.{located-exact}
 use Rattle.placement.proofs.GateNumbers.{numbers-told}
 use Rattle.projection.proofs.GateTerms.{good-gate}
 use Rattle.placement.proofs.gate.place.Statement.{statement}
@@ -75,29 +77,29 @@ range-accepted-requires : tie.Need-range-accepted-requires
 range-accepted-requires c κs = search needs
 
 returns : tie.Need-returns
-unfolding PositionWithin
-returns c = (range-answer c, (numbers-told _ _ _ _ (range-answer c), tt))
+unfolding PositionWithin ExactUnlessMarked
+returns c = (range-answer c, (numbers-told _ _ _ _ (range-answer c), (tt, tt)))
 
 site-accepted-requires : tie.Need-site-accepted-requires
 site-accepted-requires c κs = search needs
 
 returns-2 : tie.Need-returns-2
-unfolding PositionWithin
-returns-2 c = (site-answer c, (numbers-told _ _ _ _ (site-answer c), tt))
+unfolding PositionWithin ExactUnlessMarked
+returns-2 c = (site-answer c, (numbers-told _ _ _ _ (site-answer c), (tt, tt)))
 
 grid-accepted-requires : tie.Need-grid-accepted-requires
 grid-accepted-requires c κs = search needs
 
 returns-3 : tie.Need-returns-3
-unfolding PositionWithin
-returns-3 c = (grid-answer c, (numbers-told _ _ _ _ (grid-answer c), tt))
+unfolding PositionWithin ExactUnlessMarked
+returns-3 c = (grid-answer c, (numbers-told _ _ _ _ (grid-answer c), (tt, tt)))
 
 azimuth-accepted-requires : tie.Need-azimuth-accepted-requires
 azimuth-accepted-requires c κs = search needs
 
 returns-4 : tie.Need-returns-4
-unfolding PositionWithin
-returns-4 c = (azimuth-answer c, (numbers-told _ _ _ _ (azimuth-answer c), tt))
+unfolding PositionWithin ExactUnlessMarked
+returns-4 c = (azimuth-answer c, (numbers-told _ _ _ _ (azimuth-answer c), (tt, tt)))
 
 accepted-place-requires : tie.Need-accepted-place-requires
 accepted-place-requires c κs = (range-passed (c .before .before .before .before .before .before), site-passed (c .before .before .before .before), grid-passed (c .before .before))
@@ -109,8 +111,12 @@ returns-5 c =
       accepted-answer c,
       (
         numbers-told _ _ _ _ (accepted-answer c),
-        subst (PositionWithin _ (s .args .site) (s .args .grid) (s .args .azimuth) (s .args .range)) (sym (c .accepted-place .ensures))
-            (located-within (s .args .site) (s .args .grid) (s .args .azimuth) (s .args .range) good _ (lit≤ tt)),
+        (
+          subst (PositionWithin _ (s .args .site) (s .args .grid) (s .args .azimuth) (s .args .range)) (sym (c .accepted-place .ensures))
+              (located-within (s .args .site) (s .args .grid) (s .args .azimuth) (s .args .range) good _ (lit≤ tt)),
+          subst (ExactUnlessMarked (s .args .site) (s .args .grid) (s .args .azimuth) (s .args .range)) (sym (c .accepted-place .ensures))
+              (located-exact (s .args .site) (s .args .grid) (s .args .azimuth) (s .args .range) good (grid-passed (c .before .before .before))),
+        ),
       ),
     )
 
