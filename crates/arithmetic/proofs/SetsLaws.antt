@@ -1,10 +1,10 @@
 -- Lists stored one behind the other in a buffer. Assumes nothing.
 use mathlib.Core.Path.{_≡_, ap, _∙_}
 use mathlib.Core.List.{List, [], _∷_, _++_, append-nil}
-use Prim.Native.Nat.{ℕ, suc, _+_, _≤_}
+use Prim.Native.Nat.{ℕ, suc, _+_, _<_, _≤_}
 use native.Mathlib.Nat.{zero-add}
 use native.Mathlib.Omega.{arith}
-use lib.ListN.{length, set, drop, drop-of-length-le}
+use lib.ListN.{length, set, getD, drop, drop-of-length-le, List·getD-append}
 use lib.Seq.{sets, sets-eq}
 
 -- a second list right behind the first
@@ -20,6 +20,9 @@ sets-next l l′ i k xs y p q = rw (p, q) (sets-append l i xs (y ∷ []))
 -- a list stored from the start on
 pub sets-start : (l xs : List ℕ) → length xs ≤ length l → sets l 0 xs ≡ xs ++ drop (length xs) l
 sets-start l xs h = sets-eq xs l 0 (omega arith) ∙ ap (λ (k : ℕ). xs ++ drop k l) (zero-add (length xs))
+
+pub sets-start-at : (l xs : List ℕ) (k : ℕ) → length xs ≤ length l → k < length xs → getD (sets l 0 xs) k 0 ≡ getD xs k 0
+sets-start-at l xs k h i = rw (sets-start l xs h) (List·getD-append xs (drop (length xs) l) 0 k i)
 
 -- a list stored over the whole of another
 pub sets-whole : (l xs : List ℕ) → length xs ≡ length l → sets l 0 xs ≡ xs

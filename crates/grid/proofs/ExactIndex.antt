@@ -102,8 +102,8 @@ module _ (corner : ℤ) (side : ℕ) (x : ℤ) (f : Fraction) (least : 10000 ≤
   unfolding nearLine
   index-same unmarked =
       let tests = or-false _ _ unmarked in
-      let first = mul-le-mul-right (f .den) (ltb-false past tolerance (tests .0)) in
-      let last = leb-false (side - tolerance) past (tests .1) in
+      let first = mul-le-mul-right (f .den) (ltb-false past _ (tests .0)) in
+      let last = leb-false _ past (tests .1) in
       let before-last = mul-le-mul-right {m = past + 51} {n = side} (f .den) (omega arith) in
       let one : steps / parts ≡ 1 = div-eq-of-lt-le {k = 1} parts (omega (arith, steps-least, near .close)) (omega (arith, steps-most, near .close, near .positive)) in
       exact-index ∙ rw one (one-on (indexOf corner side x))

@@ -2,6 +2,8 @@
 use mathlib.Core.Path.{_≡_, refl, sym, ap, _∙_}
 use mathlib.Core.Bool.{Bool, true, false, _&&_}
 use Prim.Native.Nat.{ℕ, _≤_}
+use native.Mathlib.Nat.{mul-le-mul}
+use native.Mathlib.Omega.{arith}
 use borrow.Author.Tests.{eqb-true, eq-eqb}
 use lib.Dec.{eqb}
 use lib.ListN.{length}
@@ -27,6 +29,13 @@ pub window-size : (grid : Grid) → gridAccepted grid ≡ true → AcceptedSize 
 unfolding windowOf
 window-size (Radolan g) e = accepted-radolan g e .size
 window-size (Hrap g) e = accepted-hrap g e .size
+
+-- each cell's number is below that of outside
+pub cells-most : (head : ScanHead) → gridAccepted (head .grid) ≡ true → cellsOf head ≤ 4294967295
+unfolding cellsOf
+cells-most head accepted =
+    let size = window-size (head .grid) accepted in
+    omega (arith, mul-le-mul (size .columns-most) (size .rows-most))
 
 -- ---- the lengths
 

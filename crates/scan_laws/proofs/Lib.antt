@@ -1,4 +1,6 @@
 pub mod LedgerEntry
 pub mod PlacedTotal
+pub mod ExactGate
+pub mod ExactCount
 pub mod WholeScan
 pub mod StarredCases

@@ -1,6 +1,6 @@
--- Document 01, "Ledger and cells" and demand 2: what holds of the lists that `remap` leaves of an accepted scan. Assumes nothing.
+-- Document 01, "Ledger and cells" and demand 2, and document 02, T-10: what holds of the lists that `remap` leaves of an accepted scan. Assumes nothing.
 use mathlib.Core.Bool.{true}
-use mathlib.Core.Path.{_≡_, ap, _∙_}
+use mathlib.Core.Path.{_≡_, refl, ap, _∙_}
 use Prim.Native.Nat.{ℕ, _≤_, _<_}
 use native.Mathlib.Nat.{mul-le-mul}
 use native.Mathlib.Omega.{arith}
@@ -15,19 +15,15 @@ use Rattle.limits.specs.Accepted.{gridAccepted}
 use Rattle.scan.specs.declared.head.ScanHead.{ScanHead}
 use Rattle.scan.specs.LentLists.{Lists}
 use Rattle.scan_laws.specs.Placed.{placedOf}
+use Rattle.scan_laws.specs.ExactCount.{ExactCountBetween}
 use Rattle.accepted_remap.specs.FilledLists.{filledLists}
 use Rattle.remap.specs.Remap.{remapAnswer, Remaps}
 use Rattle.scan.specs.Scan.{Scan, cellsOf}
 use Rattle.scan.specs.ScanRefusal.{refusalFor}
-use Rattle.scan.proofs.AcceptedScan.{accepted-scan, window-size}
+use Rattle.scan.proofs.AcceptedScan.{cells-most, accepted-scan}
 use Rattle.publish.proofs.MeanBetween.{HasPart, cellMean, mean-between}
 use Rattle.scan_laws.proofs.PlacedTotal.{placed-total}
-
-pub cells-most : (head : ScanHead) → gridAccepted (head .grid) ≡ true → cellsOf head ≤ 4294967295
-unfolding cellsOf
-cells-most head accepted =
-    let size = window-size (head .grid) accepted in
-    omega (arith, mul-le-mul (size .columns-most) (size .rows-most))
+use Rattle.scan_laws.proofs.ExactCount.{exact-count-between}
 
 mean-at : (scan : Scan) (cell : ℕ) → cell < cellsOf (scan .head) → getD (filledLists scan .cells .means) cell 0 ≡ cellMean (filledLists scan .ledger) (scan .values) (scan .qualities) (scan .head .weighting) cell
 unfolding filledLists
@@ -53,3 +49,11 @@ module _ (scan : Scan) (lists : Both Lists Lists) (remapped : Remaps scan lists 
   remapped-mean-between cell h =
       rw (left, mean-at scan cell h)
       (λ ne least greatest bound. mean-between (filledLists scan .ledger) (scan .values) (scan .qualities) (scan .head .weighting) cell least greatest bound ne)
+
+  -- document 02, T-10: by the ledger and the marks that were written, the count of each cell by exact positions is at least its unmarked measured gates,
+  -- and at most those plus the marked measured gates beside it
+  pub remapped-exact-count : (cell : ℕ) → cell < cellsOf (scan .head) → ExactCountBetween scan (lists .exit .ledger) (lists .exit .marks) cell
+  remapped-exact-count cell h =
+      let known = accepted-scan scan (lists .entry) not-refused in
+      rw left
+      (exact-count-between scan (known .lengths .azimuths-length) (known .gates-least) (known .centres) (known .site) (known .grid) (known .azimuths-good) (filledLists scan .ledger) (filledLists scan .marks) (λ k i. refl) (λ k i. refl) cell h)

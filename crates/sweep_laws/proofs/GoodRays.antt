@@ -3,12 +3,12 @@ use mathlib.Core.Bool.{Bool, true}
 use mathlib.Core.List.{List, _++_}
 use mathlib.Core.Path.{_≡_, refl, sym, ap, _∙_}
 use Prim.Native.Nat.{ℕ, _+_, _*_, _≤_}
-use native.Mathlib.Nat.{zero-add, mul-le-mul}
+use native.Mathlib.Nat.{zero-add, mul-le-mul, mul-le-mul-right}
 use native.Mathlib.Omega.{arith}
 use borrow.Author.Tests.{leb-true}
 use lib.Dec.{leb}
 use lib.ListN.{length, getD, length-append}
-use lib.Seq.{sets}
+use lib.Seq.{sets, length-sets}
 use Rattle.arithmetic.specs.Places.{allOf}
 use Rattle.arithmetic.proofs.Places.{all-at}
 use Rattle.arithmetic.proofs.SetsLaws.{sets-append}
@@ -22,6 +22,7 @@ use Rattle.placement.specs.declared.gate.Placement.{Placement}
 use Rattle.placement.specs.Gate.{entryOf}
 use Rattle.scan.specs.declared.head.ScanHead.{ScanHead}
 use Rattle.scan.specs.Rays.{regularRays}
+use Rattle.scan.specs.Scan.{gatesOf}
 use Rattle.scan.specs.ScanRefusal.{qualityAccepted}
 use Rattle.scan_ledger.specs.ScanLedger.{gatesTold}
 use Rattle.accepted_take.specs.RayGroup.{RayGroup, RayLists}
@@ -94,3 +95,10 @@ module _ {head : ScanHead} {rays : RayGroup} (good : GoodRays head rays) where
         let length-is = sym (told-length entryOf head (head .gates) (rays .azimuths)) in
         sym (added-joined (ledgerSoFar head rays) (rays .values) (rays .qualities) (groupLedger head group) (group .values) (group .qualities) (good .values-length ∙ length-is) (good .qualities-length ∙ length-is) (head .weighting) sums)
         ∙ sym (ap (λ (l : List ℕ). addedSums (head .weighting) l (rays .values ++ group .values) (rays .qualities ++ group .qualities) sums) (told-joined entryOf head (head .gates) (rays .azimuths) (group .azimuths)))
+
+    -- a list with room for all rays announced has room for these, whatever was stored in it
+    pub room-behind : (list lent stored : List ℕ) → length list ≡ gatesOf head → list ≡ sets lent 0 stored → length (joined rays group .azimuths) * head .gates ≤ length lent
+    unfolding joined gatesOf
+    room-behind list lent stored exact is =
+        let all : length (rays .azimuths ++ group .azimuths) ≤ head .rays = omega (arith, length-append (rays .azimuths) (group .azimuths), next .rays-most) in
+        omega (arith, mul-le-mul-right (head .gates) all, ap length is ∙ length-sets lent 0 stored)

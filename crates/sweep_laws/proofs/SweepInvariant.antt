@@ -2,7 +2,7 @@
 use mathlib.Core.Bool.{Bool, true, false, cond}
 use mathlib.Core.List.{List}
 use mathlib.Core.Path.{_≡_, sym, ap, _∙_}
-use Prim.Native.Nat.{ℕ, _*_}
+use Prim.Native.Nat.{ℕ, _*_, _≤_}
 use native.Mathlib.Nat.{le-antisymm}
 use native.Mathlib.Omega.{arith}
 use lib.ListN.{length, length-append}
@@ -29,7 +29,7 @@ use Rattle.sweep.specs.declared.Swept.the-variants.{State, Refused}
 use Rattle.sweep.specs.SweepOperations.{sweptAnswer, raysRefusal, counted, closeRefusal, ended}
 use Rattle.sweep.proofs.ClosedSweep.{accepted-close}
 use Rattle.sweep_laws.specs.SweepSequence.{Held, rayLists, Call, takes, closes, latest, handedOn, Sixteen, IsCall, joined, acceptedWith, wholeScan}
-use Rattle.sweep_laws.proofs.GoodRays.{toldSoFar, ledgerSoFar, GoodRays, values-most, qualities-most, rays-fit, good-joined, told-behind, sums-behind}
+use Rattle.sweep_laws.proofs.GoodRays.{toldSoFar, ledgerSoFar, GoodRays, values-most, qualities-most, rays-fit, good-joined, told-behind, sums-behind, room-behind}
 
 not-both : {t : Bool} → t ≡ true → t ≡ false → ⊥
 not-both e f = let wrong : _≡_ {A = ℕ} 1 0 = ap (λ (b : Bool). cond b 1 0) (sym e ∙ f) in omega (arith, wrong)
@@ -44,6 +44,9 @@ pub record SoFar (head : ScanHead) (lent : Lists) (rays : RayGroup) (held : Held
   pub all-when-closed : held .sweep .closed ≡ true → length (rays .azimuths) ≡ head .rays
   pub the-ledger : held .lists .ledger ≡ sets (lent .ledger) 0 (ledgerSoFar head rays)
   pub the-marks : held .lists .marks ≡ sets (lent .marks) 0 (toldSoFar markOf head rays)
+  -- the lent lists have room for them
+  pub ledger-room : length (rays .azimuths) * head .gates ≤ length (lent .ledger)
+  pub marks-room : length (rays .azimuths) * head .gates ≤ length (lent .marks)
   pub the-sums : held .lists .sums ≡ addedSums (head .weighting) (ledgerSoFar head rays) (rays .values) (rays .qualities) (cleared (lent .sums))
   pub the-cells : held .lists .cells ≡ cond (held .sweep .closed) (filledLists (wholeScan head rays) .cells) (lent .cells)
 
@@ -85,6 +88,8 @@ module _ {head : ScanHead} {lent : Lists} {rays : RayGroup} {held : Held} (so-fa
             rw (so-far .same-head)
             (ap (λ (l : List ℕ). sets l (held .sweep .taken * head .gates) (groupMarks head group)) (so-far .the-marks)
             ∙ told-behind (so-far .rays-good) next (so-far .rays-counted) markOf (lent .marks));
+        ledger-room = room-behind (so-far .rays-good) next (so-far .rays-counted) (held .lists .ledger) (lent .ledger) (ledgerSoFar head rays) (next .ledger-length) (so-far .the-ledger);
+        marks-room = room-behind (so-far .rays-good) next (so-far .rays-counted) (held .lists .marks) (lent .marks) (toldSoFar markOf head rays) (next .marks-length) (so-far .the-marks);
         the-sums = with-group group next;
         the-cells = so-far .the-cells ∙ rw (next .open-yet);
       }
@@ -100,6 +105,8 @@ module _ {head : ScanHead} {lent : Lists} {rays : RayGroup} {held : Held} (so-fa
     all-when-closed = so-far .all-when-closed;
     the-ledger = so-far .the-ledger;
     the-marks = so-far .the-marks;
+    ledger-room = so-far .ledger-room;
+    marks-room = so-far .marks-room;
     the-sums = so-far .the-sums;
     the-cells = so-far .the-cells;
   })
@@ -131,6 +138,8 @@ module _ {head : ScanHead} {lent : Lists} {rays : RayGroup} {held : Held} (so-fa
         all-when-closed = λ was. sym (so-far .rays-counted) ∙ le-antisymm (known .rays-most) (known .rays-least) ∙ ap (λ (h : ScanHead). h .rays) (so-far .same-head);
         the-ledger = so-far .the-ledger;
         the-marks = so-far .the-marks;
+        ledger-room = so-far .ledger-room;
+        marks-room = so-far .marks-room;
         the-sums = so-far .the-sums;
         the-cells = published;
       }

@@ -1,8 +1,8 @@
--- Document 02, T-01, and demand 2 over a sweep: what holds after any sequence of calls from an accepted opening. Assumes nothing.
+-- Document 02, T-01 and T-10, and demand 2 over a sweep: what holds after any sequence of calls from an accepted opening. Assumes nothing.
 use mathlib.Core.Bool.{Bool, true, cond}
 use mathlib.Core.List.{List, [], _∷_, flatMap}
 use mathlib.Core.Path.{_≡_, refl, sym, ap, _∙_}
-use Prim.Native.Nat.{ℕ}
+use Prim.Native.Nat.{ℕ, _*_, _<_, _≤_}
 use native.Mathlib.Nat.{zero-mul}
 use native.Mathlib.Omega.{arith}
 use denote.Triple.Both.{Both}
@@ -10,26 +10,29 @@ use borrow.Author.Tests.{le-leb}
 use lib.ListN.{length, getD}
 use lib.Seq.{sets}
 use Rattle.arithmetic.specs.Places.{sumTo, allOf}
+use Rattle.arithmetic.proofs.SetsLaws.{sets-start-at}
 use Rattle.refusal.specs.Checks.{inRange, firstRefusal}
 use Rattle.refusal.proofs.AnswerLaws.{given-is, filled-is}
 use Rattle.refusal.proofs.RangeBounds.{range-bounds}
-use Rattle.limits.specs.Accepted.{gridAccepted}
+use Rattle.placement.specs.declared.gate.Placement.{Placement}
+use Rattle.placement.specs.Gate.{entryOf, markOf}
 use Rattle.tally.specs.LentSums.{Sums}
 use Rattle.tally.specs.Tally.{cleared, addedSums}
 use Rattle.tally.proofs.TallySplit.{added-none}
 use Rattle.scan.specs.declared.head.ScanHead.{ScanHead}
 use Rattle.scan.specs.LentLists.{Lists}
 use Rattle.scan.specs.Rays.{regularRays, allGates}
-use Rattle.scan.specs.Scan.{raysOf, cellsOf}
+use Rattle.scan.specs.Scan.{raysOf, gatesOf, cellsOf}
 use Rattle.scan.specs.ScanRefusal.{listsExact, scanNumber, scanRefusal, refusalFor}
-use Rattle.scan.proofs.AcceptedScan.{AcceptedNumbers, accepted-numbers}
+use Rattle.scan.proofs.AcceptedScan.{cells-most, AcceptedNumbers, accepted-numbers}
 use Rattle.scan_ledger.specs.ScanLedger.{gatesTold}
 use Rattle.accepted_remap.specs.FilledLists.{filledLists}
 use Rattle.remap.specs.declared.Remapped.{Remapped}
 use Rattle.remap.specs.Remap.{Remaps}
 use Rattle.scan_laws.specs.Placed.{placedOf}
+use Rattle.scan_laws.specs.ExactCount.{ExactCountBetween}
+use Rattle.scan_laws.proofs.ExactCount.{exact-count-between}
 use Rattle.scan_laws.proofs.PlacedTotal.{placed-total}
-use Rattle.scan_laws.proofs.WholeScan.{cells-most}
 use Rattle.sweep_checks.specs.SweepLengths.{sumsAccepted}
 use Rattle.sweep_checks.specs.SweepNumbers.{openNumber}
 use Rattle.accepted_take.proofs.AcceptedGroup.{accepted-sums}
@@ -40,12 +43,14 @@ use Rattle.sweep.specs.declared.Swept.the-variants.{State}
 use Rattle.sweep.specs.SweepOperations.{sweptAnswer, openRefusal, opened, Opens}
 use Rattle.sweep_laws.specs.SweepSequence.{Held, heldFrom, Call, Sixteen, Sequence, heldAfter, noRays, acceptedRays, wholeScan, NotRefusedBy}
 use Rattle.sweep_laws.specs.WholeSweep.{WholeSweep, AsRemapped}
+use Rattle.sweep_laws.proofs.JoinedRays.{told-length}
+use Rattle.sweep_laws.proofs.GoodRays.{toldSoFar}
 use Rattle.sweep_laws.proofs.SweepInvariant.{SoFar, sums-are, after-call}
 use Rattle.sweep_laws.proofs.NoWidthRefusal.{call-other}
 
 -- ---- from what is kept by every call
 
-module _ {head : ScanHead} {lent : Lists} {rays : RayGroup} {held : Held} (accepted : gridAccepted (head .grid) ≡ true) (so-far : SoFar head lent rays held) where
+module _ {head : ScanHead} {lengths azimuths qualities : Bool} (numbers : AcceptedNumbers head lengths azimuths qualities) {lent : Lists} {rays : RayGroup} {held : Held} (so-far : SoFar head lent rays held) where
   ledger-is : held .lists .ledger ≡ sets (lent .ledger) 0 (filledLists (wholeScan head rays) .ledger)
   unfolding filledLists wholeScan raysOf gatesTold
   ledger-is = so-far .the-ledger
@@ -58,7 +63,21 @@ module _ {head : ScanHead} {lent : Lists} {rays : RayGroup} {held : Held} (accep
   unfolding wholeScan cellsOf
   total =
       ap (λ (s : Sums). sumTo (λ cell. getD (s .counts) cell 0) (length (s .counts))) (sums-are so-far)
-      ∙ placed-total (wholeScan head rays) refl (cells-most head accepted)
+      ∙ placed-total (wholeScan head rays) refl (cells-most head (numbers .grid-accepted))
+
+  -- where gates of the accepted rays stand, the lists hold what was written
+  told-at : (tell : Placement → ℕ) (list : List ℕ) → length (rays .azimuths) * head .gates ≤ length list → (k : ℕ) → k < gatesOf (wholeScan head rays .head) → getD (sets list 0 (toldSoFar tell head rays)) k 0 ≡ getD (toldSoFar tell head rays) k 0
+  unfolding wholeScan gatesOf
+  told-at tell list room k h =
+      let so-many = told-length tell head (head .gates) (rays .azimuths) in
+      sets-start-at list (toldSoFar tell head rays) k (omega (arith, so-many)) (omega (arith, so-many))
+
+  exact-counts : (cell : ℕ) → cell < cellsOf head → ExactCountBetween (wholeScan head rays) (held .lists .ledger) (held .lists .marks) cell
+  unfolding filledLists wholeScan raysOf gatesTold cellsOf
+  exact-counts cell h =
+      exact-count-between (wholeScan head rays) refl (range-bounds 1 1000 (head .gates) (numbers .gates-accepted) .0) (numbers .centres-accepted) (numbers .site-accepted) (numbers .grid-accepted) (so-far .rays-good .azimuths-good) (held .lists .ledger) (held .lists .marks)
+      (λ k i. ap (λ (l : List ℕ). getD l k 0) (so-far .the-ledger) ∙ told-at entryOf (lent .ledger) (so-far .ledger-room) k i)
+      (λ k i. ap (λ (l : List ℕ). getD l k 0) (so-far .the-marks) ∙ told-at markOf (lent .marks) (so-far .marks-room) k i) cell h
 
   whole : WholeSweep head lent rays held
   whole = record {
@@ -70,6 +89,7 @@ module _ {head : ScanHead} {lent : Lists} {rays : RayGroup} {held : Held} (accep
     the-sums = sums-are so-far;
     the-cells = so-far .the-cells;
     count-total = total;
+    exact-count = exact-counts;
   }
 
 -- call after call
@@ -109,6 +129,8 @@ module _ (head : ScanHead) (lent : Lists) (sums : Sums) (sweep : Sweep) (opens :
     all-when-closed = λ was. let wrong : _≡_ {A = ℕ} 0 1 = ap (λ (b : Bool). cond b 1 0) was in absurd (omega (arith, wrong));
     the-ledger = refl;
     the-marks = refl;
+    ledger-room = omega (arith, zero-mul (head .gates));
+    marks-room = omega (arith, zero-mul (head .gates));
     the-sums = sym (added-none (head .weighting) [] [] [] (cleared (lent .sums)));
     the-cells = refl;
   }
@@ -120,7 +142,7 @@ module _ (head : ScanHead) (lent : Lists) (sums : Sums) (sweep : Sweep) (opens :
     -- "While the caller hands on the latest state and untouched lists, ledger, sums and cells equal those of the whole scan made of the accepted
     -- rays, however these were divided; demand 2 reads over them."
     pub whole-sweep : WholeSweep head lent (acceptedRays noRays calls) (heldAfter (heldFrom sweep lent sums) calls)
-    whole-sweep = whole (numbers .grid-accepted) (after-calls calls begun sequence .0)
+    whole-sweep = whole numbers (after-calls calls begun sequence .0)
 
     -- and 31 is never given
     pub never-31 : NotRefusedBy 31 calls

@@ -1,0 +1,133 @@
+-- Document 02, T-10: the count of a cell by exact positions is at least its unmarked measured gates, and at most those plus the marked measured
+-- gates beside it. Assumes nothing.
+use mathlib.Core.Bool.{Bool, true, false, _&&_, not, cond}
+use mathlib.Core.List.{List}
+use mathlib.Core.Path.{_≡_, refl, sym, subst, ap, _∙_}
+use Prim.Native.Nat.{ℕ, _+_, _*_, _/_, _%_, _<_, _≤_, zero-le}
+use native.Mathlib.Nat.{mod-lt, div-add-mod', div-lt-iff-lt-mul, le-refl}
+use native.Mathlib.Omega.{arith}
+use borrow.Author.Tests.{eqb-true, eq-eqb, le-leb}
+use lib.Dec.{eqb, leb}
+use lib.ListN.{length, getD}
+use Rattle.arithmetic.specs.Places.{sumTo, allOf}
+use Rattle.arithmetic.proofs.Places.{sum-scale, sum-of-sums, all-at}
+use Rattle.limits.specs.Accepted.{rangeAccepted, azimuthAccepted, siteAccepted, gridAccepted}
+use Rattle.grid.specs.Sphere.{sphereOf}
+use Rattle.grid.specs.Window.{windowOf}
+use Rattle.projection.specs.ExactPosition.{X*, Y*}
+use Rattle.projection.specs.Position.{positionOf}
+use Rattle.projection.proofs.GateTerms.{GoodGate, good-gate}
+use Rattle.placement.specs.Gate.{unlessRefused, placementOf, entryOf, markOf}
+use Rattle.placement.specs.Located.{located}
+use Rattle.placement.specs.ExactCell.{cellOf*, entryOf*}
+use Rattle.placement.proofs.ExactCell.{near}
+use Rattle.placement.proofs.SurveyLimits.{window-limits}
+use Rattle.tally.specs.Gates.{isMeasured}
+use Rattle.tally.specs.Tally.{contributes}
+use Rattle.scan.specs.Scan.{Scan, raysOf, gatesOf, cellsOf}
+use Rattle.scan.specs.ScanRefusal.{centresAccepted}
+use Rattle.scan.proofs.AcceptedScan.{cells-most}
+use Rattle.scan.proofs.RayLaws.{gate-at}
+use Rattle.scan_ledger.specs.ScanLedger.{gatesTold}
+use Rattle.scan_ledger.proofs.AcceptedLedger.{centres-most, gate-accepted}
+use Rattle.accepted_remap.specs.FilledLists.{filledLists}
+use Rattle.scan_laws.specs.ExactCount.{besideOf, ledger*, gatesBeside, isMarked, gatesThat, exactCount, unmarkedCount, markedBeside, ExactCountBetween}
+use Rattle.scan_laws.proofs.ExactGate.{GateBeside, gate-beside}
+use Rattle.scan_laws.proofs.LedgerEntry.{ledger-entry, gate-mark}
+
+-- at least the one count, and at most it and the other
+Between : ℕ → ℕ → ℕ → Type 0
+Between least exactly others = (least ≤ exactly) × (exactly ≤ least + others)
+
+-- ---- the part of one gate in the three counts
+
+abbrev one : Bool → ℕ
+one pass = cond pass 1 0
+
+-- a gate that is not marked counts as its entry does
+kept : (own : Bool) (others : ℕ) → Between (one (own && true)) (one own) others
+unfolding Between
+kept true others = (omega arith, omega arith)
+kept false others = (omega arith, omega arith)
+
+-- a marked one is left out of the first count, and is in the last where it lies beside the cell
+left-out : (own : Bool) (n : ℕ) → one (own && false) ≤ n
+left-out true n = zero-le
+left-out false n = zero-le
+
+counted-beside : (exactly measured beside : Bool) (n : ℕ) → (exactly ≡ true → beside ≡ true) → one (exactly && measured) ≤ n + one (measured && (true && beside))
+counted-beside true true beside n h = rw (h refl) (omega arith)
+counted-beside true false beside n h = omega arith
+counted-beside false measured beside n h = omega arith
+
+gate-part : {cell entry mark beside exact : ℕ} (measured : Bool) → GateBeside cell entry mark beside exact → Between (one (eqb entry cell && measured && not (eqb mark 1))) (one (eqb exact cell && measured)) (one (measured && (eqb mark 1 && eqb beside 1)))
+unfolding Between
+gate-part {cell} {entry} {mark} {beside} {exact} measured known = go (eqb mark 1) refl
+  where
+    go : (marked : Bool) → eqb mark 1 ≡ marked → Between (one (eqb entry cell && measured && not marked)) (one (eqb exact cell && measured)) (one (measured && (marked && eqb beside 1)))
+    go true e = (left-out (eqb entry cell && measured) _, counted-beside (eqb exact cell) measured (eqb beside 1) _ (λ is. eq-eqb beside 1 (known .exactly-beside (eqb-true exact cell is))))
+    go false e = rw (known .unmarked e) (kept (eqb entry cell && measured) _)
+
+-- ---- the sums
+
+sums-between : (least exactly others : ℕ → ℕ) (n : ℕ) → ((k : ℕ) → k < n → Between (least k) (exactly k) (others k)) → Between (sumTo least n) (sumTo exactly n) (sumTo others n)
+unfolding Between
+sums-between least exactly others n h = (
+  omega (arith, sum-scale 1 least exactly n (λ k i. omega (arith, h k i .0))),
+  rw (← (sum-of-sums least others n)) (omega (arith, sum-scale 1 exactly (λ k. least k + others k) n (λ k i. omega (arith, h k i .1)))),
+)
+
+module _ (scan : Scan) (rays : length (scan .azimuths) ≡ scan .head .rays) (gates : 1 ≤ scan .head .gates) (centres : centresAccepted (scan .head .gates) (scan .head .first) (scan .head .spacing) ≡ true) (site : siteAccepted (scan .head .site) ≡ true) (grid : gridAccepted (scan .head .grid) ≡ true) (azimuths : allOf azimuthAccepted (scan .azimuths) ≡ true) where
+  -- gate g of ray i
+  module _ (i g : ℕ) (i-below : i < scan .head .rays) (g-below : g < scan .head .gates) where
+    abbrev azimuth : ℕ
+    azimuth = getD (scan .azimuths) i 0
+
+    abbrev range : ℕ
+    range = scan .head .first + g * scan .head .spacing
+
+    -- it is not refused
+    placed : placementOf (scan .head .site) (scan .head .grid) azimuth range ≡ located (windowOf (scan .head .grid)) (positionOf (sphereOf (scan .head .grid)) (scan .head .site) azimuth range)
+    unfolding placementOf unlessRefused azimuthAccepted
+    placed = rw (gate-accepted (scan .head) centres site grid azimuth g (all-at azimuthAccepted (scan .azimuths) refl azimuths i) g-below)
+
+    good : GoodGate (scan .head .site) azimuth range
+    unfolding rangeAccepted
+    good = good-gate (scan .head .site) azimuth range (le-leb _ _ (centres-most (scan .head .gates) (scan .head .first) (scan .head .spacing) g centres g-below)) site
+
+    i-azimuth : i < length (scan .azimuths)
+    i-azimuth = omega (arith, rays)
+
+    exact-entry : getD (ledger* scan) (i * scan .head .gates + g) 0 ≡ entryOf* (cellOf* (scan .head .site) (scan .head .grid) azimuth range)
+    unfolding ledger* raysOf
+    exact-entry = gate-at _ _ _ (scan .head .gates) (scan .azimuths) i g i-azimuth g-below
+
+    module _ (cell : ℕ) (below : cell < cellsOf (scan .head)) where
+      beside-entry : getD (gatesBeside scan cell) (i * scan .head .gates + g) 0 ≡ besideOf (windowOf (scan .head .grid)) cell (placementOf (scan .head .site) (scan .head .grid) azimuth range)
+      unfolding gatesBeside gatesTold raysOf
+      beside-entry = gate-at _ _ _ (scan .head .gates) (scan .azimuths) i g i-azimuth g-below
+
+      of-gate : let k = i * scan .head .gates + g in GateBeside cell (getD (filledLists scan .ledger) k 0) (getD (filledLists scan .marks) k 0) (getD (gatesBeside scan cell) k 0) (getD (ledger* scan) k 0)
+      unfolding cellOf*
+      of-gate =
+          let window = windowOf (scan .head .grid) in
+          let sphere = sphereOf (scan .head .grid) in
+          let within = near (scan .head .site) (scan .head .grid) azimuth range good grid in
+          rw (ledger-entry scan i g i-azimuth g-below, gate-mark scan i g i-azimuth g-below, beside-entry, exact-entry, placed)
+          (gate-beside window (positionOf sphere (scan .head .site) azimuth range) (X* sphere (scan .head .site) azimuth range) (Y* sphere (scan .head .site) azimuth range) (window-limits (scan .head .grid) grid .side-least) (within .x-within) (within .y-within) cell (omega (arith, below, cells-most (scan .head) grid)))
+
+  -- by the ledger and the marks that a pass wrote for these gates
+  module _ (ledger marks : List ℕ) (ledger-is : (k : ℕ) → k < gatesOf (scan .head) → getD ledger k 0 ≡ getD (filledLists scan .ledger) k 0) (marks-are : (k : ℕ) → k < gatesOf (scan .head) → getD marks k 0 ≡ getD (filledLists scan .marks) k 0) (cell : ℕ) (below : cell < cellsOf (scan .head)) where
+    of-place : (k : ℕ) → k < gatesOf (scan .head) → GateBeside cell (getD ledger k 0) (getD marks k 0) (getD (gatesBeside scan cell) k 0) (getD (ledger* scan) k 0)
+    unfolding gatesOf
+    of-place k h =
+        let g = scan .head .gates in
+        rw (ledger-is k h, marks-are k h)
+        (subst (λ (n : ℕ). GateBeside cell (getD (filledLists scan .ledger) n 0) (getD (filledLists scan .marks) n 0) (getD (gatesBeside scan cell) n 0) (getD (ledger* scan) n 0)) (div-add-mod' k g)
+        (of-gate (k / g) (k % g) (div-lt-iff-lt-mul {k = g} gates .1 h) (mod-lt k gates) cell below))
+
+    pub exact-count-between : ExactCountBetween scan ledger marks cell
+    unfolding exactCount unmarkedCount markedBeside gatesThat isMarked contributes Between
+    exact-count-between =
+        let counts = sums-between _ _ _ (gatesOf (scan .head)) (λ k h. gate-part (isMeasured (getD (scan .values) k 0)) (of-place k h)) in
+        record { at-least = counts .0; at-most = counts .1 }

@@ -1,0 +1,77 @@
+-- Document 02, T-10: the count of a cell by exact positions, and the counts of the ledger and the marks that it lies between. A star marks what
+-- exact positions give. Assumes nothing.
+use mathlib.Core.Bool.{Bool, _&&_, not, cond}
+use mathlib.Core.List.{List}
+use Prim.Native.Nat.{ℕ, _+_, _/_, _%_, _≤_}
+use lib.Dec.{eqb, leb}
+use lib.IntN.{ℤ, pos, _-ℤ_, natAbs}
+use lib.ListN.{getD}
+use Rattle.arithmetic.specs.Places.{sumTo}
+use Rattle.grid.specs.declared.window.Window.{Window}
+use Rattle.grid.specs.Window.{windowOf}
+use Rattle.projection.specs.declared.position.Position.{Position}
+use Rattle.placement.specs.declared.gate.Placement.{Placement}
+use Rattle.placement.specs.declared.gate.Placement.the-variants.{Inside, Outside, Refused}
+use Rattle.placement.specs.Located.{column, row}
+use Rattle.placement.specs.ExactCell.{cellOf*, entryOf*}
+use Rattle.tally.specs.Gates.{isMeasured}
+use Rattle.tally.specs.Tally.{contributes}
+use Rattle.scan.specs.Rays.{allGates}
+use Rattle.scan.specs.Scan.{Scan, raysOf, gatesOf}
+use Rattle.scan_ledger.specs.ScanLedger.{gatesTold}
+
+-- ---- beside a cell
+
+-- a column or a row that differs from a cell's by no more than one
+unfoldable pub atMostOneApart : ℤ → ℕ → Bool
+atMostOneApart index ofCell = leb (natAbs (index -ℤ pos ofCell)) 1
+
+-- a position whose column and row each do; a cell's number is row x columns + column
+unfoldable pub besideCell : Window → ℕ → Position → Bool
+besideCell window cell at =
+    atMostOneApart (column window at) (cell % window .columns) && atMostOneApart (row window at) (cell / window .columns)
+
+-- 1 for a gate at such a position, inside the grid or outside, and 0 for any other
+unfoldable pub besideOf : Window → ℕ → Placement → ℕ
+besideOf window cell (Inside own x y mark) = cond (besideCell window cell (record { x = x; y = y })) 1 0
+besideOf window cell (Outside x y mark) = cond (besideCell window cell (record { x = x; y = y })) 1 0
+besideOf window cell (Refused number) = 0
+
+-- ---- the gates of a scan, by their numbers
+
+unfoldable pub isMarked : List ℕ → ℕ → Bool
+isMarked marks gate = eqb (getD marks gate 0) 1
+
+module _ (scan : Scan) where
+  -- for each gate, measured or not, ray by ray: its ledger entry by its exact position
+  unfoldable pub ledger* : List ℕ
+  ledger* = allGates (λ ray range. entryOf* (cellOf* (scan .head .site) (scan .head .grid) (ray .azimuth) range)) (scan .head .first) (scan .head .spacing) (raysOf scan)
+
+  -- and whether it lies beside the cell, 1 or 0
+  unfoldable pub gatesBeside : ℕ → List ℕ
+  gatesBeside cell = gatesTold (besideOf (windowOf (scan .head .grid)) cell) (scan .head) (raysOf scan)
+
+  -- ---- three counts of a cell
+
+  -- how many gates pass a test
+  unfoldable pub gatesThat : (ℕ → Bool) → ℕ
+  gatesThat pass = sumTo (λ gate. cond (pass gate) 1 0) (gatesOf (scan .head))
+
+  -- by exact positions: the measured gates whose exact cell is the cell
+  unfoldable pub exactCount : ℕ → ℕ
+  exactCount cell = gatesThat (λ gate. contributes ledger* (scan .values) (scan .qualities) cell gate)
+
+  -- the measured gates of the cell that are not marked
+  unfoldable pub unmarkedCount : List ℕ → List ℕ → ℕ → ℕ
+  unmarkedCount ledger marks cell =
+      gatesThat (λ gate. contributes ledger (scan .values) (scan .qualities) cell gate && not (isMarked marks gate))
+
+  -- the marked measured gates beside the cell, those outside the grid included
+  unfoldable pub markedBeside : List ℕ → ℕ → ℕ
+  markedBeside marks cell =
+      gatesThat (λ gate. isMeasured (getD (scan .values) gate 0) && (isMarked marks gate && eqb (getD (gatesBeside cell) gate 0) 1))
+
+-- what is promised of a cell, by the ledger and the marks that were written
+pub record ExactCountBetween (scan : Scan) (ledger marks : List ℕ) (cell : ℕ) : Type 0 where
+  pub at-least : unmarkedCount scan ledger marks cell ≤ exactCount scan cell
+  pub at-most : exactCount scan cell ≤ unmarkedCount scan ledger marks cell + markedBeside scan marks cell
