@@ -1,5 +1,5 @@
--- Document 02, T-10: the count of a cell by exact positions is at least its unmarked measured gates, and at most those plus the marked measured
--- gates beside it. Assumes nothing.
+-- Document 02, T-10: what the ledger and the marks of an accepted scan say of its gates' exact positions, and of each cell's count by these.
+-- Assumes nothing.
 use mathlib.Core.Bool.{Bool, true, false, _&&_, not, cond}
 use mathlib.Core.List.{List}
 use mathlib.Core.Path.{_≡_, refl, sym, subst, ap, _∙_}
@@ -12,9 +12,10 @@ use lib.ListN.{length, getD}
 use Rattle.arithmetic.specs.Places.{sumTo, allOf}
 use Rattle.arithmetic.proofs.Places.{sum-scale, sum-of-sums, all-at}
 use Rattle.limits.specs.Accepted.{rangeAccepted, azimuthAccepted, siteAccepted, gridAccepted}
+use Rattle.grid.specs.Mark.{tolerance}
 use Rattle.grid.specs.Sphere.{sphereOf}
 use Rattle.grid.specs.Window.{windowOf}
-use Rattle.projection.specs.ExactPosition.{X*, Y*}
+use Rattle.projection.specs.Nearness.{WithinExact}
 use Rattle.projection.specs.Position.{positionOf}
 use Rattle.projection.proofs.GateTerms.{GoodGate, good-gate}
 use Rattle.placement.specs.Gate.{unlessRefused, placementOf, entryOf, markOf}
@@ -31,8 +32,8 @@ use Rattle.scan.proofs.RayLaws.{gate-at}
 use Rattle.scan_ledger.specs.ScanLedger.{gatesTold}
 use Rattle.scan_ledger.proofs.AcceptedLedger.{centres-most, gate-accepted}
 use Rattle.accepted_remap.specs.FilledLists.{filledLists}
-use Rattle.scan_laws.specs.ExactCount.{besideOf, ledger*, gatesBeside, isMarked, gatesThat, exactCount, unmarkedCount, markedBeside, ExactCountBetween}
-use Rattle.scan_laws.proofs.ExactGate.{GateBeside, gate-beside}
+use Rattle.scan_laws.specs.ExactCount.{besideOf, ledger*, gatesBeside, isMarked, gatesThat, exactCount, unmarkedCount, markedBeside, ExactByMarks}
+use Rattle.scan_laws.proofs.ExactGate.{unmarked-exact, exactly-beside}
 use Rattle.scan_laws.proofs.LedgerEntry.{ledger-entry, gate-mark}
 
 -- at least the one count, and at most it and the other
@@ -60,13 +61,13 @@ counted-beside true true beside n h = rw (h refl) (omega arith)
 counted-beside true false beside n h = omega arith
 counted-beside false measured beside n h = omega arith
 
-gate-part : {cell entry mark beside exact : ℕ} (measured : Bool) → GateBeside cell entry mark beside exact → Between (one (eqb entry cell && measured && not (eqb mark 1))) (one (eqb exact cell && measured)) (one (measured && (eqb mark 1 && eqb beside 1)))
+gate-part : (cell entry mark beside exact : ℕ) (measured : Bool) → (eqb mark 1 ≡ false → entry ≡ exact) → (exact ≡ cell → beside ≡ 1) → Between (one (eqb entry cell && measured && not (eqb mark 1))) (one (eqb exact cell && measured)) (one (measured && (eqb mark 1 && eqb beside 1)))
 unfolding Between
-gate-part {cell} {entry} {mark} {beside} {exact} measured known = go (eqb mark 1) refl
+gate-part cell entry mark beside exact measured unmarked near-by = go (eqb mark 1) refl
   where
     go : (marked : Bool) → eqb mark 1 ≡ marked → Between (one (eqb entry cell && measured && not marked)) (one (eqb exact cell && measured)) (one (measured && (marked && eqb beside 1)))
-    go true e = (left-out (eqb entry cell && measured) _, counted-beside (eqb exact cell) measured (eqb beside 1) _ (λ is. eq-eqb beside 1 (known .exactly-beside (eqb-true exact cell is))))
-    go false e = rw (known .unmarked e) (kept (eqb entry cell && measured) _)
+    go true e = (left-out (eqb entry cell && measured) _, counted-beside (eqb exact cell) measured (eqb beside 1) _ (λ is. eq-eqb beside 1 (near-by (eqb-true exact cell is))))
+    go false e = rw (unmarked e) (kept (eqb exact cell && measured) _)
 
 -- ---- the sums
 
@@ -77,14 +78,22 @@ sums-between least exactly others n h = (
   rw (← (sum-of-sums least others n)) (omega (arith, sum-scale 1 exactly (λ k. least k + others k) n (λ k i. omega (arith, h k i .1)))),
 )
 
+-- ---- the gates of an accepted scan
+
 module _ (scan : Scan) (rays : length (scan .azimuths) ≡ scan .head .rays) (gates : 1 ≤ scan .head .gates) (centres : centresAccepted (scan .head .gates) (scan .head .first) (scan .head .spacing) ≡ true) (site : siteAccepted (scan .head .site) ≡ true) (grid : gridAccepted (scan .head .grid) ≡ true) (azimuths : allOf azimuthAccepted (scan .azimuths) ≡ true) where
   -- gate g of ray i
   module _ (i g : ℕ) (i-below : i < scan .head .rays) (g-below : g < scan .head .gates) where
+    abbrev place : ℕ
+    place = i * scan .head .gates + g
+
     abbrev azimuth : ℕ
     azimuth = getD (scan .azimuths) i 0
 
     abbrev range : ℕ
     range = scan .head .first + g * scan .head .spacing
+
+    i-azimuth : i < length (scan .azimuths)
+    i-azimuth = omega (arith, rays)
 
     -- it is not refused
     placed : placementOf (scan .head .site) (scan .head .grid) azimuth range ≡ located (windowOf (scan .head .grid)) (positionOf (sphereOf (scan .head .grid)) (scan .head .site) azimuth range)
@@ -95,39 +104,56 @@ module _ (scan : Scan) (rays : length (scan .azimuths) ≡ scan .head .rays) (ga
     unfolding rangeAccepted
     good = good-gate (scan .head .site) azimuth range (le-leb _ _ (centres-most (scan .head .gates) (scan .head .first) (scan .head .spacing) g centres g-below)) site
 
-    i-azimuth : i < length (scan .azimuths)
-    i-azimuth = omega (arith, rays)
-
-    exact-entry : getD (ledger* scan) (i * scan .head .gates + g) 0 ≡ entryOf* (cellOf* (scan .head .site) (scan .head .grid) azimuth range)
+    exact-entry : getD (ledger* scan) place 0 ≡ entryOf* (cellOf* (scan .head .site) (scan .head .grid) azimuth range)
     unfolding ledger* raysOf
     exact-entry = gate-at _ _ _ (scan .head .gates) (scan .azimuths) i g i-azimuth g-below
 
-    module _ (cell : ℕ) (below : cell < cellsOf (scan .head)) where
-      beside-entry : getD (gatesBeside scan cell) (i * scan .head .gates + g) 0 ≡ besideOf (windowOf (scan .head .grid)) cell (placementOf (scan .head .site) (scan .head .grid) azimuth range)
-      unfolding gatesBeside gatesTold raysOf
-      beside-entry = gate-at _ _ _ (scan .head .gates) (scan .azimuths) i g i-azimuth g-below
+    beside-entry : (cell : ℕ) → getD (gatesBeside scan cell) place 0 ≡ besideOf (windowOf (scan .head .grid)) cell (placementOf (scan .head .site) (scan .head .grid) azimuth range)
+    unfolding gatesBeside gatesTold raysOf
+    beside-entry cell = gate-at _ _ _ (scan .head .gates) (scan .azimuths) i g i-azimuth g-below
 
-      of-gate : let k = i * scan .head .gates + g in GateBeside cell (getD (filledLists scan .ledger) k 0) (getD (filledLists scan .marks) k 0) (getD (gatesBeside scan cell) k 0) (getD (ledger* scan) k 0)
-      unfolding cellOf*
-      of-gate =
-          let window = windowOf (scan .head .grid) in
-          let sphere = sphereOf (scan .head .grid) in
-          let within = near (scan .head .site) (scan .head .grid) azimuth range good grid in
-          rw (ledger-entry scan i g i-azimuth g-below, gate-mark scan i g i-azimuth g-below, beside-entry, exact-entry, placed)
-          (gate-beside window (positionOf sphere (scan .head .site) azimuth range) (X* sphere (scan .head .site) azimuth range) (Y* sphere (scan .head .site) azimuth range) (window-limits (scan .head .grid) grid .side-least) (within .x-within) (within .y-within) cell (omega (arith, below, cells-most (scan .head) grid)))
+    -- its position lies near the exact one
+    within : WithinExact tolerance (scan .head .site) (scan .head .grid) azimuth range (positionOf (sphereOf (scan .head .grid)) (scan .head .site) azimuth range .x) (positionOf (sphereOf (scan .head .grid)) (scan .head .site) azimuth range .y)
+    within = near (scan .head .site) (scan .head .grid) azimuth range good grid
 
-  -- by the ledger and the marks that a pass wrote for these gates
-  module _ (ledger marks : List ℕ) (ledger-is : (k : ℕ) → k < gatesOf (scan .head) → getD ledger k 0 ≡ getD (filledLists scan .ledger) k 0) (marks-are : (k : ℕ) → k < gatesOf (scan .head) → getD marks k 0 ≡ getD (filledLists scan .marks) k 0) (cell : ℕ) (below : cell < cellsOf (scan .head)) where
-    of-place : (k : ℕ) → k < gatesOf (scan .head) → GateBeside cell (getD ledger k 0) (getD marks k 0) (getD (gatesBeside scan cell) k 0) (getD (ledger* scan) k 0)
-    unfolding gatesOf
-    of-place k h =
-        let g = scan .head .gates in
-        rw (ledger-is k h, marks-are k h)
-        (subst (λ (n : ℕ). GateBeside cell (getD (filledLists scan .ledger) n 0) (getD (filledLists scan .marks) n 0) (getD (gatesBeside scan cell) n 0) (getD (ledger* scan) n 0)) (div-add-mod' k g)
-        (of-gate (k / g) (k % g) (div-lt-iff-lt-mul {k = g} gates .1 h) (mod-lt k gates) cell below))
+    side-least : 10000 ≤ windowOf (scan .head .grid) .side
+    side-least = window-limits (scan .head .grid) grid .side-least
 
-    pub exact-count-between : ExactCountBetween scan ledger marks cell
-    unfolding exactCount unmarkedCount markedBeside gatesThat isMarked contributes Between
-    exact-count-between =
-        let counts = sums-between _ _ _ (gatesOf (scan .head)) (λ k h. gate-part (isMeasured (getD (scan .values) k 0)) (of-place k h)) in
-        record { at-least = counts .0; at-most = counts .1 }
+    unmarked-at : eqb (getD (filledLists scan .marks) place 0) 1 ≡ false → getD (filledLists scan .ledger) place 0 ≡ getD (ledger* scan) place 0
+    unfolding cellOf*
+    unmarked-at =
+        rw (ledger-entry scan i g i-azimuth g-below, gate-mark scan i g i-azimuth g-below, exact-entry, placed)
+        (unmarked-exact (windowOf (scan .head .grid)) _ _ _ side-least (within .x-within) (within .y-within))
+
+    beside-at : (cell : ℕ) → cell < cellsOf (scan .head) → getD (ledger* scan) place 0 ≡ cell → getD (gatesBeside scan cell) place 0 ≡ 1
+    unfolding cellOf*
+    beside-at cell below =
+        rw (beside-entry cell, exact-entry, placed)
+        (exactly-beside (windowOf (scan .head .grid)) _ _ _ side-least (within .x-within) (within .y-within) cell (omega (arith, cells-most (scan .head) grid)))
+
+  -- what holds of each gate of each ray holds of every gate
+  every-gate : (P : ℕ → Type 0) → ((i g : ℕ) → i < scan .head .rays → g < scan .head .gates → P (i * scan .head .gates + g)) → (k : ℕ) → k < gatesOf (scan .head) → P k
+  unfolding gatesOf
+  every-gate P each k h =
+      let n = scan .head .gates in
+      subst P (div-add-mod' k n) (each (k / n) (k % n) (div-lt-iff-lt-mul {k = n} gates .1 h) (mod-lt k gates))
+
+  -- by a ledger and marks that hold what was written for these gates
+  module _ (ledger marks : List ℕ) (ledger-is : (k : ℕ) → k < gatesOf (scan .head) → getD ledger k 0 ≡ getD (filledLists scan .ledger) k 0) (marks-are : (k : ℕ) → k < gatesOf (scan .head) → getD marks k 0 ≡ getD (filledLists scan .marks) k 0) where
+    unmarked-gate : (k : ℕ) → k < gatesOf (scan .head) → eqb (getD marks k 0) 1 ≡ false → getD ledger k 0 ≡ getD (ledger* scan) k 0
+    unmarked-gate k h = rw (ledger-is k h, marks-are k h) (every-gate (λ n. eqb (getD (filledLists scan .marks) n 0) 1 ≡ false → getD (filledLists scan .ledger) n 0 ≡ getD (ledger* scan) n 0) unmarked-at k h)
+
+    counts : (cell : ℕ) → cell < cellsOf (scan .head) → Between (unmarkedCount scan ledger marks cell) (exactCount scan cell) (markedBeside scan marks cell)
+    unfolding exactCount unmarkedCount markedBeside gatesThat isMarked contributes
+    counts cell below =
+        sums-between _ _ _ (gatesOf (scan .head))
+        (λ k h. gate-part cell (getD ledger k 0) (getD marks k 0) (getD (gatesBeside scan cell) k 0) (getD (ledger* scan) k 0) (isMeasured (getD (scan .values) k 0)) (unmarked-gate k h)
+        (every-gate (λ n. getD (ledger* scan) n 0 ≡ cell → getD (gatesBeside scan cell) n 0 ≡ 1) (λ i g a b. beside-at i g a b cell below) k h))
+
+    pub exact-by-marks : ExactByMarks scan ledger marks
+    unfolding isMarked Between
+    exact-by-marks = record {
+      unmarked-entry = unmarked-gate;
+      count-least = λ cell below. counts cell below .0;
+      count-most = λ cell below. counts cell below .1;
+    }

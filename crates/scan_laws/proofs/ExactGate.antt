@@ -1,4 +1,4 @@
--- Document 02, T-10, of one gate and one cell: what its entry, its mark and its place beside the cell say of its exact cell. Assumes nothing.
+-- Document 02, T-10, of one gate: without a mark its entry is the exact one, and it lies beside its exact cell. Assumes nothing.
 use mathlib.Core.Bool.{Bool, true, false, _&&_, cond}
 use mathlib.Core.Path.{_≡_, refl, sym, subst, ap, _∙_}
 use Prim.Native.Nat.{ℕ, _+_, _*_, _/_, _%_, _<_, _≤_}
@@ -21,13 +21,6 @@ use Rattle.placement.specs.Located.{column, row, inWindow, marked, located}
 use Rattle.placement.specs.ExactCell.{inside*, outside*, column*, row*, inWindow*, located*, entryOf*}
 use Rattle.placement.proofs.ExactCell.{column-beside, row-beside, entry-same}
 use Rattle.scan_laws.specs.ExactCount.{atMostOneApart, besideCell, besideOf}
-
--- what is known of a gate, by its entry, its mark, whether it lies beside the cell, and its exact entry
-pub record GateBeside (cell entry mark beside exact : ℕ) : Type 0 where
-  -- a gate that is not marked has its exact entry
-  pub unmarked : eqb mark 1 ≡ false → exact ≡ entry
-  -- one whose exact cell is the cell lies beside it
-  pub exactly-beside : exact ≡ cell → beside ≡ 1
 
 -- ---- what a placement tells, whichever it is
 
@@ -67,25 +60,24 @@ one-apart : (index : ℤ) {exact : ℤ} {ofCell : ℕ} → exact ≡ pos ofCell 
 unfolding atMostOneApart
 one-apart index e h = le-leb _ _ (subst (λ (z : ℤ). natAbs (index -ℤ z) ≤ 1) e h)
 
-module _ (window : Window) (at : Position) (x y : Fraction) (least : 10000 ≤ window .side) (x-near : Within tolerance (at .x) x) (y-near : Within tolerance (at .y) y) (cell : ℕ) (below : cell < outsideEntry) where
-  in-the-cell : inWindow* window x y ≡ true → cellNumber (window .columns) (row* window x y) (column* window x y) ≡ cell → besideCell window cell at ≡ true
-  unfolding besideCell
-  in-the-cell inside is =
-      let known = rw is at (columns-rows window x y inside) in
-      let of-column = one-apart (column window at) (known .0) (column-beside window at x y least x-near y-near) in
-      let of-row = one-apart (row window at) (known .1) (row-beside window at x y least x-near y-near) in
-      rw (of-column, of-row)
+module _ (window : Window) (at : Position) (x y : Fraction) (least : 10000 ≤ window .side) (x-near : Within tolerance (at .x) x) (y-near : Within tolerance (at .y) y) where
+  pub unmarked-exact : eqb (markOf (located window at)) 1 ≡ false → entryOf (located window at) ≡ entryOf* (located* window x y)
+  unmarked-exact e = sym (entry-same window at x y least x-near y-near (no-mark (marked window at) (rw (mark-told window at) at e)))
 
-  exact-beside : entryOf* (located* window x y) ≡ cell → besideCell window cell at ≡ true
-  unfolding located* entryOf*
-  exact-beside e = go (inWindow* window x y) refl e
-    where
-      go : (inside : Bool) → inWindow* window x y ≡ inside → entryOf* (cond inside (inside* (cellNumber (window .columns) (row* window x y) (column* window x y))) outside*) ≡ cell → besideCell window cell at ≡ true
-      go true i is = in-the-cell i is
-      go false i is = absurd (omega arith)
+  module _ (cell : ℕ) (below : cell < outsideEntry) where
+    in-the-cell : inWindow* window x y ≡ true → cellNumber (window .columns) (row* window x y) (column* window x y) ≡ cell → besideCell window cell at ≡ true
+    unfolding besideCell
+    in-the-cell inside is =
+        let known = rw is at (columns-rows window x y inside) in
+        let of-column = one-apart (column window at) (known .0) (column-beside window at x y least x-near y-near) in
+        let of-row = one-apart (row window at) (known .1) (row-beside window at x y least x-near y-near) in
+        rw (of-column, of-row)
 
-  pub gate-beside : GateBeside cell (entryOf (located window at)) (markOf (located window at)) (besideOf window cell (located window at)) (entryOf* (located* window x y))
-  gate-beside = record {
-    unmarked = λ e. entry-same window at x y least x-near y-near (no-mark (marked window at) (rw (mark-told window at) at e));
-    exactly-beside = λ e. beside-told window cell at ∙ ap (λ (b : Bool). cond {A = ℕ} b 1 0) (exact-beside e);
-  }
+    by-span : (inside : Bool) → inWindow* window x y ≡ inside → entryOf* (cond inside (inside* (cellNumber (window .columns) (row* window x y) (column* window x y))) outside*) ≡ cell → besideCell window cell at ≡ true
+    unfolding entryOf*
+    by-span true inside is = in-the-cell inside is
+    by-span false inside is = absurd (omega arith)
+
+    pub exactly-beside : entryOf* (located* window x y) ≡ cell → besideOf window cell (located window at) ≡ 1
+    unfolding located*
+    exactly-beside is = beside-told window cell at ∙ ap (λ (b : Bool). cond {A = ℕ} b 1 0) (by-span (inWindow* window x y) refl is)

@@ -15,7 +15,7 @@ use Rattle.limits.specs.Accepted.{gridAccepted}
 use Rattle.scan.specs.declared.head.ScanHead.{ScanHead}
 use Rattle.scan.specs.LentLists.{Lists}
 use Rattle.scan_laws.specs.Placed.{placedOf}
-use Rattle.scan_laws.specs.ExactCount.{ExactCountBetween}
+use Rattle.scan_laws.specs.ExactCount.{ExactByMarks}
 use Rattle.accepted_remap.specs.FilledLists.{filledLists}
 use Rattle.remap.specs.Remap.{remapAnswer, Remaps}
 use Rattle.scan.specs.Scan.{Scan, cellsOf}
@@ -23,7 +23,7 @@ use Rattle.scan.specs.ScanRefusal.{refusalFor}
 use Rattle.scan.proofs.AcceptedScan.{cells-most, accepted-scan}
 use Rattle.publish.proofs.MeanBetween.{HasPart, cellMean, mean-between}
 use Rattle.scan_laws.proofs.PlacedTotal.{placed-total}
-use Rattle.scan_laws.proofs.ExactCount.{exact-count-between}
+use Rattle.scan_laws.proofs.ExactCount.{exact-by-marks}
 
 mean-at : (scan : Scan) (cell : ℕ) → cell < cellsOf (scan .head) → getD (filledLists scan .cells .means) cell 0 ≡ cellMean (filledLists scan .ledger) (scan .values) (scan .qualities) (scan .head .weighting) cell
 unfolding filledLists
@@ -50,10 +50,9 @@ module _ (scan : Scan) (lists : Both Lists Lists) (remapped : Remaps scan lists 
       rw (left, mean-at scan cell h)
       (λ ne least greatest bound. mean-between (filledLists scan .ledger) (scan .values) (scan .qualities) (scan .head .weighting) cell least greatest bound ne)
 
-  -- document 02, T-10: by the ledger and the marks that were written, the count of each cell by exact positions is at least its unmarked measured gates,
-  -- and at most those plus the marked measured gates beside it
-  pub remapped-exact-count : (cell : ℕ) → cell < cellsOf (scan .head) → ExactCountBetween scan (lists .exit .ledger) (lists .exit .marks) cell
-  remapped-exact-count cell h =
+  -- document 02, T-10: what the ledger and the marks that were written say of exact positions
+  pub remapped-exact : ExactByMarks scan (lists .exit .ledger) (lists .exit .marks)
+  remapped-exact =
       let known = accepted-scan scan (lists .entry) not-refused in
       rw left
-      (exact-count-between scan (known .lengths .azimuths-length) (known .gates-least) (known .centres) (known .site) (known .grid) (known .azimuths-good) (filledLists scan .ledger) (filledLists scan .marks) (λ k i. refl) (λ k i. refl) cell h)
+      (exact-by-marks scan (known .lengths .azimuths-length) (known .gates-least) (known .centres) (known .site) (known .grid) (known .azimuths-good) (filledLists scan .ledger) (filledLists scan .marks) (λ k i. refl) (λ k i. refl))

@@ -1,8 +1,9 @@
--- Document 02, T-10: the count of a cell by exact positions, and the counts of the ledger and the marks that it lies between. A star marks what
+-- Document 02, T-10: the ledger and the counts by exact positions, and what a ledger and marks that were written say of them. A star marks what
 -- exact positions give. Assumes nothing.
-use mathlib.Core.Bool.{Bool, _&&_, not, cond}
+use mathlib.Core.Bool.{Bool, false, _&&_, not, cond}
 use mathlib.Core.List.{List}
-use Prim.Native.Nat.{ℕ, _+_, _/_, _%_, _≤_}
+use mathlib.Core.Path.{_≡_}
+use Prim.Native.Nat.{ℕ, _+_, _/_, _%_, _<_, _≤_}
 use lib.Dec.{eqb, leb}
 use lib.IntN.{ℤ, pos, _-ℤ_, natAbs}
 use lib.ListN.{getD}
@@ -17,7 +18,7 @@ use Rattle.placement.specs.ExactCell.{cellOf*, entryOf*}
 use Rattle.tally.specs.Gates.{isMeasured}
 use Rattle.tally.specs.Tally.{contributes}
 use Rattle.scan.specs.Rays.{allGates}
-use Rattle.scan.specs.Scan.{Scan, raysOf, gatesOf}
+use Rattle.scan.specs.Scan.{Scan, raysOf, gatesOf, cellsOf}
 use Rattle.scan_ledger.specs.ScanLedger.{gatesTold}
 
 -- ---- beside a cell
@@ -71,7 +72,11 @@ module _ (scan : Scan) where
   markedBeside marks cell =
       gatesThat (λ gate. isMeasured (getD (scan .values) gate 0) && (isMarked marks gate && eqb (getD (gatesBeside cell) gate 0) 1))
 
--- what is promised of a cell, by the ledger and the marks that were written
-pub record ExactCountBetween (scan : Scan) (ledger marks : List ℕ) (cell : ℕ) : Type 0 where
-  pub at-least : unmarkedCount scan ledger marks cell ≤ exactCount scan cell
-  pub at-most : exactCount scan cell ≤ unmarkedCount scan ledger marks cell + markedBeside scan marks cell
+-- ---- what a ledger and marks say of exact positions
+
+pub record ExactByMarks (scan : Scan) (ledger marks : List ℕ) : Type 0 where
+  -- a gate that is not marked has the entry of its exact position: the same cell, or outside in both
+  pub unmarked-entry : (gate : ℕ) → gate < gatesOf (scan .head) → isMarked marks gate ≡ false → getD ledger gate 0 ≡ getD (ledger* scan) gate 0
+  -- a cell's count by exact positions is at least its unmarked measured gates, and at most those plus the marked measured gates beside it
+  pub count-least : (cell : ℕ) → cell < cellsOf (scan .head) → unmarkedCount scan ledger marks cell ≤ exactCount scan cell
+  pub count-most : (cell : ℕ) → cell < cellsOf (scan .head) → exactCount scan cell ≤ unmarkedCount scan ledger marks cell + markedBeside scan marks cell

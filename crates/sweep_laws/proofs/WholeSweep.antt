@@ -30,8 +30,8 @@ use Rattle.accepted_remap.specs.FilledLists.{filledLists}
 use Rattle.remap.specs.declared.Remapped.{Remapped}
 use Rattle.remap.specs.Remap.{Remaps}
 use Rattle.scan_laws.specs.Placed.{placedOf}
-use Rattle.scan_laws.specs.ExactCount.{ExactCountBetween}
-use Rattle.scan_laws.proofs.ExactCount.{exact-count-between}
+use Rattle.scan_laws.specs.ExactCount.{ExactByMarks}
+use Rattle.scan_laws.proofs.ExactCount.{exact-by-marks}
 use Rattle.scan_laws.proofs.PlacedTotal.{placed-total}
 use Rattle.sweep_checks.specs.SweepLengths.{sumsAccepted}
 use Rattle.sweep_checks.specs.SweepNumbers.{openNumber}
@@ -72,12 +72,12 @@ module _ {head : ScanHead} {lengths azimuths qualities : Bool} (numbers : Accept
       let so-many = told-length tell head (head .gates) (rays .azimuths) in
       sets-start-at list (toldSoFar tell head rays) k (omega (arith, so-many)) (omega (arith, so-many))
 
-  exact-counts : (cell : ℕ) → cell < cellsOf head → ExactCountBetween (wholeScan head rays) (held .lists .ledger) (held .lists .marks) cell
-  unfolding filledLists wholeScan raysOf gatesTold cellsOf
-  exact-counts cell h =
-      exact-count-between (wholeScan head rays) refl (range-bounds 1 1000 (head .gates) (numbers .gates-accepted) .0) (numbers .centres-accepted) (numbers .site-accepted) (numbers .grid-accepted) (so-far .rays-good .azimuths-good) (held .lists .ledger) (held .lists .marks)
+  exact : ExactByMarks (wholeScan head rays) (held .lists .ledger) (held .lists .marks)
+  unfolding filledLists wholeScan raysOf gatesTold
+  exact =
+      exact-by-marks (wholeScan head rays) refl (range-bounds 1 1000 (head .gates) (numbers .gates-accepted) .0) (numbers .centres-accepted) (numbers .site-accepted) (numbers .grid-accepted) (so-far .rays-good .azimuths-good) (held .lists .ledger) (held .lists .marks)
       (λ k i. ap (λ (l : List ℕ). getD l k 0) (so-far .the-ledger) ∙ told-at entryOf (lent .ledger) (so-far .ledger-room) k i)
-      (λ k i. ap (λ (l : List ℕ). getD l k 0) (so-far .the-marks) ∙ told-at markOf (lent .marks) (so-far .marks-room) k i) cell h
+      (λ k i. ap (λ (l : List ℕ). getD l k 0) (so-far .the-marks) ∙ told-at markOf (lent .marks) (so-far .marks-room) k i)
 
   whole : WholeSweep head lent rays held
   whole = record {
@@ -89,7 +89,7 @@ module _ {head : ScanHead} {lengths azimuths qualities : Bool} (numbers : Accept
     the-sums = sums-are so-far;
     the-cells = so-far .the-cells;
     count-total = total;
-    exact-count = exact-counts;
+    exact-by-marks = exact;
   }
 
 -- call after call

@@ -1,16 +1,14 @@
 -- Document 02, T-01 with T-02's marks and T-10's counts, and demand 2 over a sweep: what a caller holds, beside the whole scan made of the accepted rays. Assumes nothing.
 use mathlib.Core.Bool.{true, cond}
 use mathlib.Core.Path.{_≡_}
-use Prim.Native.Nat.{ℕ, _<_}
 use lib.ListN.{length, getD}
 use lib.Seq.{sets}
 use Rattle.arithmetic.specs.Places.{sumTo}
 use Rattle.scan.specs.declared.head.ScanHead.{ScanHead}
 use Rattle.scan.specs.LentLists.{Lists}
-use Rattle.scan.specs.Scan.{cellsOf}
 use Rattle.accepted_remap.specs.FilledLists.{filledLists}
 use Rattle.scan_laws.specs.Placed.{placedOf}
-use Rattle.scan_laws.specs.ExactCount.{ExactCountBetween}
+use Rattle.scan_laws.specs.ExactCount.{ExactByMarks}
 use Rattle.accepted_take.specs.RayGroup.{RayGroup}
 use Rattle.sweep_laws.specs.SweepSequence.{Held, wholeScan}
 
@@ -28,8 +26,8 @@ pub record WholeSweep (head : ScanHead) (lent : Lists) (rays : RayGroup) (held :
   pub the-cells : held .lists .cells ≡ cond (held .sweep .closed) (filledLists (wholeScan head rays) .cells) (lent .cells)
   -- demand 2: the counts over the grid add up to the measured gates placed inside it
   pub count-total : sumTo (λ cell. getD (held .lists .sums .counts) cell 0) (length (held .lists .sums .counts)) ≡ placedOf (wholeScan head rays)
-  -- document 02, T-10: the count of each cell by the exact positions of the accepted rays' gates
-  pub exact-count : (cell : ℕ) → cell < cellsOf head → ExactCountBetween (wholeScan head rays) (held .lists .ledger) (held .lists .marks) cell
+  -- document 02, T-10: what the ledger and the marks say of the exact positions of the accepted rays' gates
+  pub exact-by-marks : ExactByMarks (wholeScan head rays) (held .lists .ledger) (held .lists .marks)
 
 -- by what `remap` leaves of it
 pub record AsRemapped (lent : Lists) (held : Held) (remapped : Lists) : Type 0 where
