@@ -65,21 +65,11 @@ module _ (corner : ℤ) (side : ℕ) (x : ℤ) (f : Fraction) (least : 10000 ≤
   positive-parts : 0 < parts
   positive-parts = omega (arith, near .positive, mul-le-mul-right (f .den) least)
 
-  past-most : past * f .den + f .den ≤ parts
-  unfolding pastLine
-  past-most = omega (arith, mul-le-mul-right (f .den) (modulo-below (x -ℤ corner) side (omega arith)))
-
   off-most : natAbs off < parts
   off-most = omega (arith, near .close, near .positive, mul-le-mul-right (f .den) least)
 
   steps-are : pos (past * f .den + parts) -ℤ off ≡ pos steps
   steps-are = natural-difference (past * f .den + parts) off (omega (arith, off-most))
-
-  steps-most : steps ≤ past * f .den + parts + natAbs off
-  steps-most = natAbs-difference (pos (past * f .den + parts)) off
-
-  steps-least : past * f .den + parts ≤ steps + natAbs off
-  steps-least = natAbs-rest (pos (past * f .den + parts)) off
 
   -- the exact index, counted from the line before
   exact-index : indexOf* corner side f ≡ indexOf corner side x -ℤ pos 1 +ℤ pos (steps / parts)
@@ -89,6 +79,16 @@ module _ (corner : ℤ) (side : ℕ) (x : ℤ) (f : Fraction) (least : 10000 ≤
       let exact = numerator (f .num) corner (f .den) ∙ from-side-before x (f .num) corner index side (f .den) past (floor-modulo (x -ℤ corner) side (omega arith)) in
       ap₂ (λ (z : ℤ) (n : ℕ). z ÷ n) (exact ∙ ap (λ (z : ℤ). (index -ℤ pos 1) *ℤ pos parts +ℤ z) steps-are) (denominator (f .den) side)
       ∙ floor-of-sum (index -ℤ pos 1) parts steps positive-parts
+
+  past-most : past * f .den + f .den ≤ parts
+  unfolding pastLine
+  past-most = omega (arith, mul-le-mul-right (f .den) (modulo-below (x -ℤ corner) side (omega arith)))
+
+  steps-most : steps ≤ past * f .den + parts + natAbs off
+  steps-most = natAbs-difference (pos (past * f .den + parts)) off
+
+  steps-least : past * f .den + parts ≤ steps + natAbs off
+  steps-least = natAbs-rest (pos (past * f .den + parts)) off
 
   -- it differs from the coordinate's own by no more than one
   pub index-beside : natAbs (indexOf corner side x -ℤ indexOf* corner side f) ≤ 1
@@ -104,6 +104,6 @@ module _ (corner : ℤ) (side : ℕ) (x : ℤ) (f : Fraction) (least : 10000 ≤
       let tests = or-false _ _ unmarked in
       let first = mul-le-mul-right (f .den) (ltb-false past _ (tests .0)) in
       let last = leb-false _ past (tests .1) in
-      let before-last = mul-le-mul-right {m = past + 51} {n = side} (f .den) (omega arith) in
+      let before-last = mul-le-mul-right {m = past + tolerance + 1} {n = side} (f .den) (omega arith) in
       let one : steps / parts ≡ 1 = div-eq-of-lt-le {k = 1} parts (omega (arith, steps-least, near .close)) (omega (arith, steps-most, near .close, near .positive)) in
       exact-index ∙ rw one (one-on (indexOf corner side x))

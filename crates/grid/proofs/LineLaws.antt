@@ -41,9 +41,9 @@ module _ {corner : ℤ} {side : ℕ} {x index : ℤ} (room : LineRoom corner sid
 
 -- ---- the first test decides, or the second
 
-module _ (side : ℕ) {past rest : ℕ} (is : past ≡ rest) {width : ℕ} where
-  pub first-decides : past < width → ltb past width ≡ (ltb rest width || leb (side - width) rest)
-  first-decides h = rw (← is, lt-ltb past width h)
+module _ (side : ℕ) {past rest : ℕ} (is : past ≡ rest) where
+  pub first-decides : {width marked : ℕ} → width ≤ marked → past < width → ltb past width ≡ (ltb rest marked || leb (side - marked) rest)
+  first-decides {width} {marked} most h = let before : past < marked = omega arith in rw (← is, lt-ltb past width h, lt-ltb past marked before)
 
-  pub second-decides : width ≤ past → leb (side - width) past ≡ (ltb rest width || leb (side - width) rest)
-  second-decides h = rw (← is, le-ltb past width h)
+  pub second-decides : {width : ℕ} → width ≤ past → leb (side - width) past ≡ (ltb rest width || leb (side - width) rest)
+  second-decides {width} h = rw (← is, le-ltb past width h)

@@ -1,6 +1,7 @@
 -- `grid::mark::near_line` meets its contract. Assumes nothing.
 use mathlib.Core.Path.{_≡_}
 use borrow.Author.Needs.{needs}
+use lib.Dec.{lit≤}
 use mir.Facts.{toZ-ofZ}
 use Rattle.grid.specs.Mark.{pastLine, nearLine}
 use Rattle.grid.proofs.LineLaws.{first-decides, second-decides}
@@ -18,7 +19,7 @@ sub-result c = search needs
 
 returns : tie.Need-returns
 unfolding nearLine
-returns c = first-decides _ (past-is (c .before)) (c .if1 .taken)
+returns c = first-decides _ (past-is (c .before)) (lit≤ tt) (c .if1 .taken)
 
 returns-2 : tie.Need-returns-2
 unfolding nearLine
