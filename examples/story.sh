@@ -27,3 +27,11 @@ say 'Another radar stands on a crossing of two lines. How many of its 80 gates a
 show "target/bin/ledger < examples/crossing.scan | awk 'NR > 1 && \$NF == 1' | wc -l"
 say 'Its ray 2 looks east, along the line y = -420928583, and bends away from it, by 53 centimetres at gate 8:'
 show "target/bin/ledger < examples/crossing.scan | awk '\$1 == 2 && \$2 >= 6'"
+say 'A gate without a mark lies in the very cell that exact fractions give, or outside in both; that is proved. So by exact'
+say 'positions a cell has at least its unmarked measured gates, and at most those and the marked measured gates that lie in'
+say 'it or in a cell beside it. No gate of the shower is marked: every count of its sheet is certain. Column 1, row 5 of the'
+say 'other grid has 3 gates. Marked ones in it or beside it, 3 sides each way from x = -400000 and y = -420828583:'
+show "target/bin/ledger < examples/crossing.scan | awk '\$NF == 1 && \$5 != 65535 && \$7 >= -400000 && \$7 < -100000 && \$8 >= -420828583 && \$8 < -420528583' | wc -l"
+say 'None, so 3 is certain. Column 1, row 4 has no gate, and these in it or beside it:'
+show "target/bin/ledger < examples/crossing.scan | awk '\$NF == 1 && \$5 != 65535 && \$7 >= -400000 && \$7 < -100000 && \$8 >= -420928583 && \$8 < -420628583'"
+say 'Gates 2 and 3 of ray 6 leave its count open: by exact positions it is from 0 to 2.'

@@ -105,7 +105,8 @@ struct uldrevin_scan {
  *
  * The mark is 1 where the remainder of x less the x of the grid's south-west corner, by the side and never negative, is under 50 or at
  * least the side less 50, or the same for y: the position is 0 to 49 centimetres east or north of a cell's edge line, or 1 to 50 west or
- * south of it. The lines are taken as prolonged beyond the grid.
+ * south of it. The lines are taken as prolonged beyond the grid. Where the mark is 0, the cell is the very one that the same formulas give
+ * in exact fractions, or both are outside.
  */
 uint32_t uldrevin_place(const struct uldrevin_site *site, const struct uldrevin_grid *grid, int64_t azimuth, int64_t range,
                         uint32_t *cell, int64_t *x, int64_t *y, uint8_t *mark);

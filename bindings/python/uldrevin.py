@@ -123,7 +123,8 @@ class Placement(NamedTuple):
     """The position of a gate on the map; its cell: row x columns + column, or None outside the grid; and its mark, inside or outside.
 
     The mark is True where the remainder of x less the x of the grid's south-west corner, by the side and never negative, is under 50 or at
-    least the side less 50, or the same for y. The edge lines of cells are taken as prolonged beyond the grid.
+    least the side less 50, or the same for y. The edge lines of cells are taken as prolonged beyond the grid. Where it is False, the cell
+    is the very one that the same formulas give in exact fractions, or both are outside.
     """
 
     x: int

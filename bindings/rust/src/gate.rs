@@ -10,7 +10,8 @@ pub struct Placement {
     pub y: i64,
     pub cell: Option<u32>,
     /// Whether the remainder of x less the x of the grid's south-west corner, by the side and never negative, is under 50 or at least the
-    /// side less 50, or the same for y. The edge lines of cells are taken as prolonged beyond the grid.
+    /// side less 50, or the same for y. The edge lines of cells are taken as prolonged beyond the grid. Where it is false, the cell is the
+    /// very one that the same formulas give in exact fractions, or both are outside.
     pub mark: bool,
 }
 

@@ -1,9 +1,9 @@
 -- Document 02, T-10, of one gate: its column and row beside those of its exact position. Assumes nothing.
 use mathlib.Core.Bool.{Bool, true, false, cond}
-use mathlib.Core.Path.{_≡_, refl, ap, ap₂, _∙_}
+use mathlib.Core.Path.{_≡_, refl, ap, _∙_}
 use Prim.Native.Nat.{ℕ, _≤_}
 use lib.Dec.{lit≤}
-use lib.IntN.{ℤ, _-ℤ_, natAbs}
+use lib.IntN.{_-ℤ_, natAbs}
 use Rattle.arithmetic.specs.Fraction.{Fraction}
 use Rattle.arithmetic.specs.Nearness.{Within}
 use Rattle.arithmetic.proofs.Test.{or-false}
@@ -13,7 +13,7 @@ use Rattle.limits.specs.declared.site.Site.{Site}
 use Rattle.grid.specs.declared.window.Window.{Window}
 use Rattle.grid.specs.Mark.{tolerance, nearLine}
 use Rattle.grid.specs.Sphere.{sphereOf}
-use Rattle.grid.specs.Window.{windowOf, inSpan, cellNumber}
+use Rattle.grid.specs.Window.{windowOf, cellNumber}
 use Rattle.grid.proofs.ExactIndex.{index-beside, index-same}
 use Rattle.projection.specs.declared.position.Position.{Position}
 use Rattle.projection.specs.ExactPosition.{X*, Y*}
@@ -23,7 +23,7 @@ use Rattle.projection.proofs.GateTerms.{GoodGate}
 use Rattle.placement.specs.declared.gate.Placement.the-variants.{Inside, Outside}
 use Rattle.placement.specs.Gate.{entryOf}
 use Rattle.placement.specs.Located.{column, row, inWindow, marked, located}
-use Rattle.placement.specs.ExactCell.{Cell*, inside*, outside*, column*, row*, inWindow*, located*, cellOf*, entryOf*, ExactUnlessMarked}
+use Rattle.placement.specs.ExactCell.{inside*, outside*, column*, row*, inWindow*, located*, cellOf*, entryOf*, ExactUnlessMarked}
 use Rattle.placement.proofs.GateNear.{position-within}
 use Rattle.placement.proofs.SurveyLimits.{window-limits}
 

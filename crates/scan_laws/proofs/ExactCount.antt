@@ -2,12 +2,12 @@
 -- Assumes nothing.
 use mathlib.Core.Bool.{Bool, true, false, _&&_, not, cond}
 use mathlib.Core.List.{List}
-use mathlib.Core.Path.{_≡_, refl, sym, subst, ap, _∙_}
+use mathlib.Core.Path.{_≡_, refl, subst, ap, _∙_}
 use Prim.Native.Nat.{ℕ, _+_, _*_, _/_, _%_, _<_, _≤_, zero-le}
-use native.Mathlib.Nat.{mod-lt, div-add-mod', div-lt-iff-lt-mul, le-refl}
+use native.Mathlib.Nat.{mod-lt, div-add-mod', div-lt-iff-lt-mul}
 use native.Mathlib.Omega.{arith}
 use borrow.Author.Tests.{eqb-true, eq-eqb, le-leb}
-use lib.Dec.{eqb, leb}
+use lib.Dec.{eqb}
 use lib.ListN.{length, getD}
 use Rattle.arithmetic.specs.Places.{sumTo, allOf}
 use Rattle.arithmetic.proofs.Places.{sum-scale, sum-of-sums, all-at}
@@ -18,21 +18,21 @@ use Rattle.grid.specs.Window.{windowOf}
 use Rattle.projection.specs.Nearness.{WithinExact}
 use Rattle.projection.specs.Position.{positionOf}
 use Rattle.projection.proofs.GateTerms.{GoodGate, good-gate}
-use Rattle.placement.specs.Gate.{unlessRefused, placementOf, entryOf, markOf}
+use Rattle.placement.specs.Gate.{unlessRefused, placementOf}
 use Rattle.placement.specs.Located.{located}
 use Rattle.placement.specs.ExactCell.{cellOf*, entryOf*}
 use Rattle.placement.proofs.ExactCell.{near}
 use Rattle.placement.proofs.SurveyLimits.{window-limits}
 use Rattle.tally.specs.Gates.{isMeasured}
-use Rattle.tally.specs.Tally.{contributes}
+use Rattle.tally.specs.Tally.{contributes, sumOver, countOf}
 use Rattle.scan.specs.Scan.{Scan, raysOf, gatesOf, cellsOf}
 use Rattle.scan.specs.ScanRefusal.{centresAccepted}
 use Rattle.scan.proofs.AcceptedScan.{cells-most}
-use Rattle.scan.proofs.RayLaws.{gate-at}
+use Rattle.scan.proofs.RayLaws.{gate-at, gates-length, regular-gates}
 use Rattle.scan_ledger.specs.ScanLedger.{gatesTold}
 use Rattle.scan_ledger.proofs.AcceptedLedger.{centres-most, gate-accepted}
 use Rattle.accepted_remap.specs.FilledLists.{filledLists}
-use Rattle.scan_laws.specs.ExactCount.{besideOf, ledger*, gatesBeside, isMarked, gatesThat, exactCount, unmarkedCount, markedBeside, ExactByMarks}
+use Rattle.scan_laws.specs.ExactCount.{besideOf, ledger*, isMarked, isBeside, gatesThat, exactCount, unmarkedCount, markedBeside, ExactByMarks}
 use Rattle.scan_laws.proofs.ExactGate.{unmarked-exact, exactly-beside}
 use Rattle.scan_laws.proofs.LedgerEntry.{ledger-entry, gate-mark}
 
@@ -56,16 +56,16 @@ left-out : (own : Bool) (n : ℕ) → one (own && false) ≤ n
 left-out true n = zero-le
 left-out false n = zero-le
 
-counted-beside : (exactly measured beside : Bool) (n : ℕ) → (exactly ≡ true → beside ≡ true) → one (exactly && measured) ≤ n + one (measured && (true && beside))
+counted-beside : (exactly measured beside : Bool) (n : ℕ) → (exactly ≡ true → beside ≡ true) → one (exactly && measured) ≤ n + one (measured && true && beside)
 counted-beside true true beside n h = rw (h refl) (omega arith)
 counted-beside true false beside n h = omega arith
 counted-beside false measured beside n h = omega arith
 
-gate-part : (cell entry mark beside exact : ℕ) (measured : Bool) → (eqb mark 1 ≡ false → entry ≡ exact) → (exact ≡ cell → beside ≡ 1) → Between (one (eqb entry cell && measured && not (eqb mark 1))) (one (eqb exact cell && measured)) (one (measured && (eqb mark 1 && eqb beside 1)))
+gate-part : (cell entry mark beside exact : ℕ) (measured : Bool) → (eqb mark 1 ≡ false → entry ≡ exact) → (exact ≡ cell → beside ≡ 1) → Between (one (eqb entry cell && measured && not (eqb mark 1))) (one (eqb exact cell && measured)) (one (measured && eqb mark 1 && eqb beside 1))
 unfolding Between
 gate-part cell entry mark beside exact measured unmarked near-by = go (eqb mark 1) refl
   where
-    go : (marked : Bool) → eqb mark 1 ≡ marked → Between (one (eqb entry cell && measured && not marked)) (one (eqb exact cell && measured)) (one (measured && (marked && eqb beside 1)))
+    go : (marked : Bool) → eqb mark 1 ≡ marked → Between (one (eqb entry cell && measured && not marked)) (one (eqb exact cell && measured)) (one (measured && marked && eqb beside 1))
     go true e = (left-out (eqb entry cell && measured) _, counted-beside (eqb exact cell) measured (eqb beside 1) _ (λ is. eq-eqb beside 1 (near-by (eqb-true exact cell is))))
     go false e = rw (unmarked e) (kept (eqb exact cell && measured) _)
 
@@ -81,6 +81,9 @@ sums-between least exactly others n h = (
 -- ---- the gates of an accepted scan
 
 module _ (scan : Scan) (rays : length (scan .azimuths) ≡ scan .head .rays) (gates : 1 ≤ scan .head .gates) (centres : centresAccepted (scan .head .gates) (scan .head .first) (scan .head .spacing) ≡ true) (site : siteAccepted (scan .head .site) ≡ true) (grid : gridAccepted (scan .head .grid) ≡ true) (azimuths : allOf azimuthAccepted (scan .azimuths) ≡ true) where
+  abbrev besideEach : ℕ → List ℕ
+  besideEach cell = gatesTold (besideOf (windowOf (scan .head .grid)) cell) (scan .head) (raysOf scan)
+
   -- gate g of ray i
   module _ (i g : ℕ) (i-below : i < scan .head .rays) (g-below : g < scan .head .gates) where
     abbrev place : ℕ
@@ -108,8 +111,8 @@ module _ (scan : Scan) (rays : length (scan .azimuths) ≡ scan .head .rays) (ga
     unfolding ledger* raysOf
     exact-entry = gate-at _ _ _ (scan .head .gates) (scan .azimuths) i g i-azimuth g-below
 
-    beside-entry : (cell : ℕ) → getD (gatesBeside scan cell) place 0 ≡ besideOf (windowOf (scan .head .grid)) cell (placementOf (scan .head .site) (scan .head .grid) azimuth range)
-    unfolding gatesBeside gatesTold raysOf
+    beside-entry : (cell : ℕ) → getD (besideEach cell) place 0 ≡ besideOf (windowOf (scan .head .grid)) cell (placementOf (scan .head .site) (scan .head .grid) azimuth range)
+    unfolding gatesTold raysOf
     beside-entry cell = gate-at _ _ _ (scan .head .gates) (scan .azimuths) i g i-azimuth g-below
 
     -- its position lies near the exact one
@@ -125,7 +128,7 @@ module _ (scan : Scan) (rays : length (scan .azimuths) ≡ scan .head .rays) (ga
         rw (ledger-entry scan i g i-azimuth g-below, gate-mark scan i g i-azimuth g-below, exact-entry, placed)
         (unmarked-exact (windowOf (scan .head .grid)) _ _ _ side-least (within .x-within) (within .y-within))
 
-    beside-at : (cell : ℕ) → cell < cellsOf (scan .head) → getD (ledger* scan) place 0 ≡ cell → getD (gatesBeside scan cell) place 0 ≡ 1
+    beside-at : (cell : ℕ) → cell < cellsOf (scan .head) → getD (ledger* scan) place 0 ≡ cell → getD (besideEach cell) place 0 ≡ 1
     unfolding cellOf*
     beside-at cell below =
         rw (beside-entry cell, exact-entry, placed)
@@ -143,12 +146,17 @@ module _ (scan : Scan) (rays : length (scan .azimuths) ≡ scan .head .rays) (ga
     unmarked-gate : (k : ℕ) → k < gatesOf (scan .head) → eqb (getD marks k 0) 1 ≡ false → getD ledger k 0 ≡ getD (ledger* scan) k 0
     unmarked-gate k h = rw (ledger-is k h, marks-are k h) (every-gate (λ n. eqb (getD (filledLists scan .marks) n 0) 1 ≡ false → getD (filledLists scan .ledger) n 0 ≡ getD (ledger* scan) n 0) unmarked-at k h)
 
+    exact-length : length (ledger* scan) ≡ gatesOf (scan .head)
+    unfolding ledger* raysOf gatesOf
+    exact-length = gates-length _ _ _ (raysOf scan) ∙ regular-gates (scan .head .gates) (scan .azimuths) ∙ ap (λ (n : ℕ). n * scan .head .gates) rays
+
     counts : (cell : ℕ) → cell < cellsOf (scan .head) → Between (unmarkedCount scan ledger marks cell) (exactCount scan cell) (markedBeside scan marks cell)
-    unfolding exactCount unmarkedCount markedBeside gatesThat isMarked contributes
+    unfolding exactCount countOf sumOver contributes unmarkedCount markedBeside gatesThat isMarked isBeside
     counts cell below =
-        sums-between _ _ _ (gatesOf (scan .head))
-        (λ k h. gate-part cell (getD ledger k 0) (getD marks k 0) (getD (gatesBeside scan cell) k 0) (getD (ledger* scan) k 0) (isMeasured (getD (scan .values) k 0)) (unmarked-gate k h)
-        (every-gate (λ n. getD (ledger* scan) n 0 ≡ cell → getD (gatesBeside scan cell) n 0 ≡ 1) (λ i g a b. beside-at i g a b cell below) k h))
+        rw exact-length
+        (sums-between _ _ _ (gatesOf (scan .head))
+        (λ k h. gate-part cell (getD ledger k 0) (getD marks k 0) (getD (besideEach cell) k 0) (getD (ledger* scan) k 0) (isMeasured (getD (scan .values) k 0)) (unmarked-gate k h)
+        (every-gate (λ n. getD (ledger* scan) n 0 ≡ cell → getD (besideEach cell) n 0 ≡ 1) (λ i g a b. beside-at i g a b cell below) k h)))
 
     pub exact-by-marks : ExactByMarks scan ledger marks
     unfolding isMarked Between

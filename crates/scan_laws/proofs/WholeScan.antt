@@ -1,9 +1,6 @@
 -- Document 01, "Ledger and cells" and demand 2, and document 02, T-10: what holds of the lists that `remap` leaves of an accepted scan. Assumes nothing.
-use mathlib.Core.Bool.{true}
 use mathlib.Core.Path.{_≡_, refl, ap, _∙_}
 use Prim.Native.Nat.{ℕ, _≤_, _<_}
-use native.Mathlib.Nat.{mul-le-mul}
-use native.Mathlib.Omega.{arith}
 use denote.Triple.Both.{Both}
 use lib.ListN.{length, getD}
 use Rattle.arithmetic.specs.Places.{sumTo}
@@ -11,8 +8,6 @@ use Rattle.arithmetic.proofs.Places.{table-at}
 use Rattle.refusal.proofs.AnswerLaws.{given-is, filled-is}
 use Rattle.remap.specs.declared.Remapped.the-variants.{Done}
 use Rattle.tally.specs.Gates.{echoOf}
-use Rattle.limits.specs.Accepted.{gridAccepted}
-use Rattle.scan.specs.declared.head.ScanHead.{ScanHead}
 use Rattle.scan.specs.LentLists.{Lists}
 use Rattle.scan_laws.specs.Placed.{placedOf}
 use Rattle.scan_laws.specs.ExactCount.{ExactByMarks}

@@ -16,7 +16,7 @@ use Rattle.placement.specs.declared.gate.Placement.the-variants.{Inside, Outsid
 use Rattle.placement.specs.Located.{column, row}
 use Rattle.placement.specs.ExactCell.{cellOf*, entryOf*}
 use Rattle.tally.specs.Gates.{isMeasured}
-use Rattle.tally.specs.Tally.{contributes}
+use Rattle.tally.specs.Tally.{contributes, countOf}
 use Rattle.scan.specs.Rays.{allGates}
 use Rattle.scan.specs.Scan.{Scan, raysOf, gatesOf, cellsOf}
 use Rattle.scan_ledger.specs.ScanLedger.{gatesTold}
@@ -27,7 +27,7 @@ use Rattle.scan_ledger.specs.ScanLedger.{gatesTold}
 unfoldable pub atMostOneApart : ℤ → ℕ → Bool
 atMostOneApart index ofCell = leb (natAbs (index -ℤ pos ofCell)) 1
 
--- a position whose column and row each do; a cell's number is row x columns + column
+-- a position whose column and row each differ so from the cell's; a cell's number is row x columns + column
 unfoldable pub besideCell : Window → ℕ → Position → Bool
 besideCell window cell at =
     atMostOneApart (column window at) (cell % window .columns) && atMostOneApart (row window at) (cell / window .columns)
@@ -38,31 +38,29 @@ besideOf window cell (Inside own x y mark) = cond (besideCell window cell (recor
 besideOf window cell (Outside x y mark) = cond (besideCell window cell (record { x = x; y = y })) 1 0
 besideOf window cell (Refused number) = 0
 
--- ---- the gates of a scan, by their numbers
-
 unfoldable pub isMarked : List ℕ → ℕ → Bool
 isMarked marks gate = eqb (getD marks gate 0) 1
 
 module _ (scan : Scan) where
-  -- for each gate, measured or not, ray by ray: its ledger entry by its exact position
+  -- the entry of each gate by its exact position, measured or not, ray by ray
   unfoldable pub ledger* : List ℕ
   ledger* = allGates (λ ray range. entryOf* (cellOf* (scan .head .site) (scan .head .grid) (ray .azimuth) range)) (scan .head .first) (scan .head .spacing) (raysOf scan)
 
-  -- and whether it lies beside the cell, 1 or 0
-  unfoldable pub gatesBeside : ℕ → List ℕ
-  gatesBeside cell = gatesTold (besideOf (windowOf (scan .head .grid)) cell) (scan .head) (raysOf scan)
+  -- whether a gate's computed position lies beside a cell
+  unfoldable pub isBeside : ℕ → ℕ → Bool
+  isBeside cell gate = eqb (getD (gatesTold (besideOf (windowOf (scan .head .grid)) cell) (scan .head) (raysOf scan)) gate 0) 1
 
   -- ---- three counts of a cell
+
+  -- by exact positions: document 01's count, of the measured gates whose exact entry names the cell
+  unfoldable pub exactCount : ℕ → ℕ
+  exactCount cell = countOf ledger* (scan .values) (scan .qualities) cell
 
   -- how many gates pass a test
   unfoldable pub gatesThat : (ℕ → Bool) → ℕ
   gatesThat pass = sumTo (λ gate. cond (pass gate) 1 0) (gatesOf (scan .head))
 
-  -- by exact positions: the measured gates whose exact cell is the cell
-  unfoldable pub exactCount : ℕ → ℕ
-  exactCount cell = gatesThat (λ gate. contributes ledger* (scan .values) (scan .qualities) cell gate)
-
-  -- the measured gates of the cell that are not marked
+  -- the unmarked measured gates of the cell
   unfoldable pub unmarkedCount : List ℕ → List ℕ → ℕ → ℕ
   unmarkedCount ledger marks cell =
       gatesThat (λ gate. contributes ledger (scan .values) (scan .qualities) cell gate && not (isMarked marks gate))
@@ -70,7 +68,7 @@ module _ (scan : Scan) where
   -- the marked measured gates beside the cell, those outside the grid included
   unfoldable pub markedBeside : List ℕ → ℕ → ℕ
   markedBeside marks cell =
-      gatesThat (λ gate. isMeasured (getD (scan .values) gate 0) && (isMarked marks gate && eqb (getD (gatesBeside cell) gate 0) 1))
+      gatesThat (λ gate. isMeasured (getD (scan .values) gate 0) && isMarked marks gate && isBeside cell gate)
 
 -- ---- what a ledger and marks say of exact positions
 
