@@ -1,4 +1,4 @@
-"""The Python binding in its two forms, without numpy and with it: its doctests, its checks, and the examples storm and turning.
+"""The Python binding in its two forms, without numpy and with it: its doctests, its checks, and the examples storm, turning and exact_counts.
 
     python3 tests/compare_python.py
 
@@ -12,6 +12,8 @@ import time
 from itertools import takewhile
 from pathlib import Path
 from typing import NamedTuple
+
+import exact_counts_runs
 
 ROOT = Path(__file__).resolve().parent.parent
 BINDING = ROOT / "bindings" / "python"
@@ -127,6 +129,22 @@ def turning_lines(form):
     return lines
 
 
+def exact_counts_lines(form):
+    """How many runs were made, and where one printed something else than the second program or ended otherwise."""
+    chosen, lines = list(exact_counts_runs.runs()), []
+    for one in chosen:
+        words = [form.interpreter, "-c", form.before + one.code, *one.words]
+        done = subprocess.run(words, cwd=ROOT, input=one.data, capture_output=True, timeout=PATIENCE)
+        for name, got, expected in (
+            ("standard output", done.stdout, one.output),
+            ("standard error", done.stderr, one.errors),
+            ("status", done.returncode, one.status),
+        ):
+            if got != expected:
+                lines.append(f"{one.words}, {len(one.data)} bytes: {name} is {got!r:.300}, expected {expected!r:.300}")
+    return len(chosen), lines
+
+
 def comparisons():
     for form in forms():
         tried, lines = doctest_lines(form)
@@ -135,6 +153,8 @@ def comparisons():
         yield f"the Python binding: {closing}", lines
         yield f"examples/storm.py {form.words}", storm_lines(form)
         yield f"examples/turning.py {form.words}", turning_lines(form)
+        runs, lines = exact_counts_lines(form)
+        yield f"examples/exact_counts.py {form.words}: {runs} runs, each cell of the example records among them", lines
 
 
 def main():

@@ -77,25 +77,30 @@ def aims_from(site, sphere, crossing, wanted):
     return {steps: aim for steps, aim in found.items() if aim is not None}
 
 
-def by_range(aims):
+def by_range(aims, spacing):
     """The aims in groups whose ranges are whole spacings apart, so that a scan can have them."""
-    for start in range(SPACING):
-        group = {steps: aim for steps, aim in aims.items() if aim[1] % SPACING == start}
+    for start in range(spacing):
+        group = {steps: aim for steps, aim in aims.items() if aim[1] % spacing == start}
         if group:
             yield group
 
 
-def aims_of(draw, kind):
-    """Site, crossing and a group of aims, from one site after another until every pair of steps is met."""
-    wanted = list(product(STEPS, repeat=2))
+def sites_of(draw, kind, wanted):
+    """Site, crossing and the aims from there, one site after another until every pair of steps that is wanted is met."""
     for _ in range(MOST_SITES):
         site = any_site(draw)
         crossing = crossing_near(draw, site, kind)
         aims = aims_from(site, kind.sphere, crossing, wanted)
-        yield from ((site, crossing, group) for group in by_range(aims))
+        yield site, crossing, aims
         wanted = [steps for steps in wanted if steps not in aims]
         if not wanted:
             return
+
+
+def aims_of(draw, kind):
+    """Site, crossing and a group of aims, until every pair of steps is met."""
+    for site, crossing, aims in sites_of(draw, kind, list(product(STEPS, repeat=2))):
+        yield from ((site, crossing, group) for group in by_range(aims, SPACING))
 
 
 # Scans and their aimed gates.

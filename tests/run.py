@@ -24,6 +24,7 @@ COMPARISONS = (
     "compare_sine",
     "compare_record",
     "compare_sweep",
+    "compare_exact_cells",
     "compare_placement",
     "compare_scan",
     "compare_programs",
