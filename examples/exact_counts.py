@@ -2,9 +2,9 @@
 
     python3 examples/exact_counts.py < examples/crossing.scan
 
-prints column, row and count of a cell, then the least and the greatest count that exact positions could give. The least are the
-measured gates of the cell without a mark. The greatest are these and all marked measured gates whose column and row each differ from
-the cell's by no more than one, also those outside the grid. Cells whose greatest count is 0 are left out.
+prints column, row and count of a cell, then the least and the greatest count that exact positions could give. The least are
+the measured gates of the cell without a mark. The greatest are these and all marked measured gates whose column and row each
+differ from the cell's by no more than one, also those outside the grid. Cells whose greatest count is 0 are left out.
 
     python3 examples/exact_counts.py COLUMN ROW < examples/crossing.scan
 

@@ -1,4 +1,4 @@
-"""T-10 through the compiled library: its cells, marks and counts beside the exact ones, which the second program works in fractions."""
+"""T-10 through the compiled library: its cells, marks and counts beside exact ones, in the second program's fractions."""
 import random
 from collections import Counter
 from itertools import product
@@ -28,19 +28,29 @@ STEPS = tuple(product((-1, 0, 1), repeat=2))
 WANTED_GATES = {*STEPS, *product((kind.__name__ for kind in KINDS), (INWARDS, OUTWARDS))}
 
 
+def place_of(gate):
+    """What a gate's position is from."""
+    return gate.latitude, gate.longitude, gate.grid.sphere, gate.azimuth, gate.range
+
+
+def in_cell(gate, column, row):
+    """Whether the exact position is on the west and south line of this column and row, or beyond it by less than the side."""
+    (x, y), (corner_x, corner_y), side = exact_cells.exact_position(*place_of(gate)), gate.grid.corner, gate.grid.side
+    return 0 <= x - corner_x - column * side < side and 0 <= y - corner_y - row * side < side
+
+
 def gate_beside_exact(gate, got):
-    """What a gate is by the library's answer and its exact cell, and where the two go against T-10."""
+    """What kinds of gate it is by the library's answer and its exact cell, and where these break T-10."""
     column, row = placement.column_and_row(gate.grid, got.x, got.y)
     exact_column, exact_row = exact_cells.exact_column_and_row(*gate)
     steps, exact = (exact_column - column, exact_row - row), exact_cells.exact_cell(*gate)
-    lines = []
+    told, lines = f"{gate} is {got} in the library, exactly in column {exact_column}, row {exact_row}, cell {exact}", []
+    if not in_cell(gate, exact_column, exact_row):
+        lines.append(f"{told}, where its exact position is not")
     if steps not in STEPS:
-        computed = f"column {column}, row {row}, exactly column {exact_column}, row {exact_row}"
-        lines.append(f"{gate} is {got} in the library, {computed}")
+        lines.append(f"{told}, farther than one from column {column}, row {row}")
     if got.mark == 0:
-        if got.cell != exact:
-            lines.append(f"{gate} is {got} in the library, unmarked, and its exact cell is {exact}")
-        return ["unmarked"], lines
+        return ["unmarked"], lines if got.cell == exact else [*lines, f"{told}, and unmarked"]
     kinds = ["marked", steps]
     if got.cell != exact:
         kinds.append("elsewhere")
@@ -55,11 +65,6 @@ def gates_told(tally):
     across = sum(tally[kind.__name__, way] for kind, way in product(KINDS, (INWARDS, OUTWARDS)))
     lying = f"{tally['elsewhere']} marked ones with another exact cell, {across} of these inside in one and outside in the other"
     return f"{tally['marked']} marked, {tally['unmarked']} unmarked, {lying}"
-
-
-def place_of(gate):
-    """What a gate's position is from."""
-    return gate.latitude, gate.longitude, gate.grid.sphere, gate.azimuth, gate.range
 
 
 def single_gates(compiled):
@@ -204,7 +209,8 @@ def sweeps(compiled):
                 ledger, marks = (desk.numbers(entries)[: taken * scan.gates] for entries in ("ledger", "marks"))
                 counted, others = counts_beside_exact(so_far, ledger, marks, desk.numbers("counts"))
                 tally += counted
-                unfinished += counted if taken < scan.rays else Counter()
+                if taken < scan.rays:
+                    unfinished += counted
                 lines += [f"{described(scan)}, {taken} rays taken: {line}" for line in found] + others
                 times += 1
             count += 1
@@ -213,8 +219,8 @@ def sweeps(compiled):
     yield kinds_met("all cells of these sweeps before the last ray", unfinished)
 
 
-# Least, greatest and exact counts by hand. The gate at range 0 is on a meridian: X is 0, and exactly 0. On HRAP it lies in column 401
-# and row 932 of the mesh, and no line is near Y. On RADOLAN Y is -420,928,583.
+# Least, greatest and exact counts by hand. The gate is at range 0 on a meridian: X is 0, and exactly 0. On HRAP it lies in column
+# 401 and row 932 of the mesh, and no line is near Y. On RADOLAN Y is -420,928,583.
 
 
 def on_mesh(i, j, columns=1, rows=1, **changes):

@@ -1,4 +1,4 @@
-"""The Python binding in its two forms, without numpy and with it: its doctests, its checks, and the examples storm, turning and exact_counts.
+"""The Python binding in its two forms, without numpy and with it: its doctests, its checks, and the examples that use it.
 
     python3 tests/compare_python.py
 
@@ -130,8 +130,11 @@ def turning_lines(form):
 
 
 def exact_counts_lines(form):
-    """How many runs were made, and where one printed something else than the second program or ended otherwise."""
+    """How many runs were made, and where one, or what its README shows, is not what the second program has, or ended otherwise."""
     chosen, lines = list(exact_counts_runs.runs()), []
+    for command, expected in exact_counts_runs.shown_in_readme():
+        if shown(command) != expected:
+            lines.append(f"examples/README.md shows {shown(command)} for `{command}`, expected {expected}")
     for one in chosen:
         words = [form.interpreter, "-c", form.before + one.code, *one.words]
         done = subprocess.run(words, cwd=ROOT, input=one.data, capture_output=True, timeout=PATIENCE)

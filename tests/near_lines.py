@@ -1,6 +1,6 @@
 """Gates and scans near lines: where the exact position may lie on the other side, and at both sides of each limit of the mark."""
 import random
-from itertools import islice, product
+from itertools import chain, islice, product
 
 import good_gates
 import good_scans
@@ -15,8 +15,8 @@ from second_program.sine import TURN
 
 SEED = 20270709
 
-# Steps of the computed position from a line, to the east or the north. At the first ones the exact position may be found on the other
-# side: no position in tests/compare_placement.py lies as far as 4 centimetres from the exact one.
+# Steps of the computed position from a line, to the east or the north. At the first ones the exact position may be found on the
+# other side: computed positions were found up to some 4 centimetres from it.
 CROSSED = tuple(range(-4, 4))
 AT_LIMITS = (-50, -49, 48, 49)
 UNMARKED = (50, 51, 55, 60, 100, -51, -52, -56, -61, -101)
@@ -55,11 +55,22 @@ def aimed_at(draw, pairs):
 
 
 def about_crossings(draw, lists, places):
-    """Each pair of steps on grids of both kinds, of the least and the greatest side, with the crossing at each of these places."""
+    """Each pair of steps on grids of both kinds, of the least and the greatest side, with the crossing at each place."""
     for (kind, side), pairs in product(GRIDS, lists):
         for gate, crossing in (aimed_at if kind is Hrap else moved_to)(draw, pairs):
             for grid in grids_about(kind, side, crossing, places):
                 yield gate._replace(grid=grid)
+
+
+def far_out(draw):
+    """Gates far out at low latitudes, where computed positions are farthest from exact ones, at each step from one line."""
+    for _ in range(300):
+        latitude, distance = draw.randint(200_000, 220_000), draw.randint(40_000_000, 46_000_000)
+        gate = any_gate(draw, RADOLAN_GRIDS[0])._replace(latitude=latitude, range=distance)
+        x, y = position(gate)
+        for east, north in chain(product(CROSSED, [AWAY]), product([AWAY], CROSSED)):
+            (grid,) = grids_about(Radolan, 10_000, (x - east, y - north), [(2, 1)])
+            yield gate._replace(grid=grid)
 
 
 def gates():
@@ -70,6 +81,7 @@ def gates():
         ("about a cell's line, HRAP", good_gates.hrap_lines(draw)),
         ("at the edges of the grid, HRAP", good_gates.hrap_edges(draw)),
         ("about crossings of lines", about_crossings(draw, every_pair, CROSSINGS)),
+        ("far from the radar", far_out(draw)),
         ("nearest to crossings of lines", about_crossings(draw, [NEAREST] * 320, INSIDE_AND_CORNERS)),
     ):
         yield name, list(dict.fromkeys(chosen))

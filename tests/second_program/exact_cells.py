@@ -14,7 +14,7 @@ KEPT = 4_000  # exact positions; a gate may be asked for on several grids
 exact_position = lru_cache(maxsize=KEPT)(placement.exact_position)
 
 
-# One gate. Column, row and span are those of any position, here of one in fractions, whose floor // takes too.
+# One gate. Column, row and span go by the rule for any position; of fractions too // is the floor.
 
 
 def exact_column_and_row(latitude, longitude, grid, azimuth, range):
