@@ -30,6 +30,6 @@ f ⊗ g = record { num = f .num *ℤ g .num; den = f .den * g .den }
 unfoldable pub _⊘_ : Fraction → Fraction → Fraction
 f ⊘ g = record { num = f .num *ℤ pos (g .den); den = f .den * natAbs (g .num) }
 
--- the greatest whole number that is not above it
+-- floor(num / den): the greatest whole number that is not above the fraction
 unfoldable pub floor : Fraction → ℤ
 floor f = f .num ÷ f .den

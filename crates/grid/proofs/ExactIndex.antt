@@ -21,7 +21,7 @@ use Rattle.grid.specs.Window.{indexOf, indexOf*}
 numerator : (n corner : ℤ) (d : ℕ) → (n *ℤ pos 1 +ℤ negℤ corner *ℤ pos d) *ℤ pos 1 ≡ n -ℤ corner *ℤ pos d
 numerator n corner d = rw (as-difference n, as-difference corner) (simp differences (same-difference _ _ _ _ (omega arith)))
 
--- what is left of a number of sides and past of them, less an error, counted from one side before
+-- x lies past a line by so much; the exact n / d less the corner, in parts of d, counted from the line one side before that
 from-side-before : (x n corner index : ℤ) (side d past : ℕ) → x -ℤ corner ≡ index *ℤ pos side +ℤ pos past → n -ℤ corner *ℤ pos d ≡ (index -ℤ pos 1) *ℤ pos (d * side) +ℤ (pos (past * d + d * side) -ℤ (x *ℤ pos d -ℤ n))
 from-side-before x n corner index side d past e = left ∙ ap (λ (z : ℤ). z *ℤ pos d -ℤ (x *ℤ pos d -ℤ n)) e ∙ right
   where
@@ -49,7 +49,7 @@ one-on z = rw (as-difference z) (simp differences (same-difference _ _ _ _ (omeg
 -- ---- the index
 
 module _ (corner : ℤ) (side : ℕ) (x : ℤ) (f : Fraction) (least : 10000 ≤ side) (near : Within tolerance x f) where
-  -- in parts of the exact one's denominator: a side, the error, and how far the exact coordinate lies past the line before the coordinate's own
+  -- in parts of the exact one's denominator: a side, the error, and (steps) how far the exact coordinate lies past the line before x's own line
   abbrev parts : ℕ
   parts = f .den * side
 

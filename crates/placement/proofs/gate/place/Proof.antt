@@ -1,5 +1,5 @@
 -- `placement::gate::place` meets its contract: each refusal is the definition's first, an accepted gate's position is near the exact one, and
--- so is its cell the exact one where it is not marked. Assumes nothing.
+-- its cell is the exact one where it is not marked. Assumes nothing.
 use mathlib.Core.Path.{_≡_, sym, subst, _∙_}
 use mathlib.Core.Bool.{true, false}
 use borrow.Author.Needs.{needs}
