@@ -143,5 +143,5 @@ def shown_in_readme():
     """The commands of examples/README.md, each with the lines that stand below it."""
     scan, _ = record.read_scan((EXAMPLES / "crossing.scan").read_bytes())
     command = "python3 examples/exact_counts.py"
-    yield f"{command} < examples/crossing.scan | head -n 4", cells_text(scan).decode().splitlines()[:4]
+    yield f"{command} < examples/crossing.scan | sed -n 1,4p", cells_text(scan).decode().splitlines()[:4]
     yield f"{command} 1 4 < examples/crossing.scan", gates_text(scan, 1, 4).decode().splitlines()
