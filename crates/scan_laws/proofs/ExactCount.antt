@@ -2,7 +2,7 @@
 -- Assumes nothing.
 use mathlib.Core.Bool.{Bool, true, false, _&&_, not, cond}
 use mathlib.Core.List.{List}
-use mathlib.Core.Path.{_≡_, refl, subst, ap, _∙_}
+use mathlib.Core.Path.{_≡_, refl, subst}
 use Prim.Native.Nat.{ℕ, _+_, _*_, _/_, _%_, _<_, _≤_, zero-le}
 use native.Mathlib.Nat.{mod-lt, div-add-mod', div-lt-iff-lt-mul}
 use native.Mathlib.Omega.{arith}
@@ -28,13 +28,13 @@ use Rattle.tally.specs.Tally.{contributes, sumOver, countOf}
 use Rattle.scan.specs.Scan.{Scan, raysOf, gatesOf, cellsOf}
 use Rattle.scan.specs.ScanRefusal.{centresAccepted}
 use Rattle.scan.proofs.AcceptedScan.{cells-most}
-use Rattle.scan.proofs.RayLaws.{gate-at, gates-length, regular-gates}
+use Rattle.scan.proofs.RayLaws.{gate-at}
 use Rattle.scan_ledger.specs.ScanLedger.{gatesTold}
 use Rattle.scan_ledger.proofs.AcceptedLedger.{centres-most, gate-accepted}
 use Rattle.accepted_remap.specs.FilledLists.{filledLists}
-use Rattle.scan_laws.specs.ExactCount.{besideOf, ledger*, isMarked, isBeside, gatesThat, exactCount, unmarkedCount, markedBeside, ExactByMarks}
+use Rattle.scan_laws.specs.ExactCount.{besideOf, ledger*, gatesBeside, isMarked, isBeside, gatesThat, exactCount, unmarkedCount, markedBeside, ExactByMarks}
 use Rattle.scan_laws.proofs.ExactGate.{unmarked-exact, exactly-beside}
-use Rattle.scan_laws.proofs.LedgerEntry.{ledger-entry, gate-mark}
+use Rattle.scan_laws.proofs.LedgerEntry.{so-many-gates, ledger-entry, gate-mark}
 
 -- at least the one count, and at most it and the other
 Between : ℕ → ℕ → ℕ → Type 0
@@ -81,9 +81,6 @@ sums-between least exactly others n h = (
 -- ---- the gates of an accepted scan
 
 module _ (scan : Scan) (rays : length (scan .azimuths) ≡ scan .head .rays) (gates : 1 ≤ scan .head .gates) (centres : centresAccepted (scan .head .gates) (scan .head .first) (scan .head .spacing) ≡ true) (site : siteAccepted (scan .head .site) ≡ true) (grid : gridAccepted (scan .head .grid) ≡ true) (azimuths : allOf azimuthAccepted (scan .azimuths) ≡ true) where
-  abbrev besideEach : ℕ → List ℕ
-  besideEach cell = gatesTold (besideOf (windowOf (scan .head .grid)) cell) (scan .head) (raysOf scan)
-
   -- gate g of ray i
   module _ (i g : ℕ) (i-below : i < scan .head .rays) (g-below : g < scan .head .gates) where
     abbrev place : ℕ
@@ -111,8 +108,8 @@ module _ (scan : Scan) (rays : length (scan .azimuths) ≡ scan .head .rays) (ga
     unfolding ledger* raysOf
     exact-entry = gate-at _ _ _ (scan .head .gates) (scan .azimuths) i g i-azimuth g-below
 
-    beside-entry : (cell : ℕ) → getD (besideEach cell) place 0 ≡ besideOf (windowOf (scan .head .grid)) cell (placementOf (scan .head .site) (scan .head .grid) azimuth range)
-    unfolding gatesTold raysOf
+    beside-entry : (cell : ℕ) → getD (gatesBeside scan cell) place 0 ≡ besideOf (windowOf (scan .head .grid)) cell (placementOf (scan .head .site) (scan .head .grid) azimuth range)
+    unfolding gatesBeside gatesTold raysOf
     beside-entry cell = gate-at _ _ _ (scan .head .gates) (scan .azimuths) i g i-azimuth g-below
 
     -- its position lies near the exact one
@@ -128,7 +125,7 @@ module _ (scan : Scan) (rays : length (scan .azimuths) ≡ scan .head .rays) (ga
         rw (ledger-entry scan i g i-azimuth g-below, gate-mark scan i g i-azimuth g-below, exact-entry, placed)
         (unmarked-exact (windowOf (scan .head .grid)) _ _ _ side-least (within .x-within) (within .y-within))
 
-    beside-at : (cell : ℕ) → cell < cellsOf (scan .head) → getD (ledger* scan) place 0 ≡ cell → getD (besideEach cell) place 0 ≡ 1
+    beside-at : (cell : ℕ) → cell < cellsOf (scan .head) → getD (ledger* scan) place 0 ≡ cell → getD (gatesBeside scan cell) place 0 ≡ 1
     unfolding cellOf*
     beside-at cell below =
         rw (beside-entry cell, exact-entry, placed)
@@ -147,16 +144,16 @@ module _ (scan : Scan) (rays : length (scan .azimuths) ≡ scan .head .rays) (ga
     unmarked-gate k h = rw (ledger-is k h, marks-are k h) (every-gate (λ n. eqb (getD (filledLists scan .marks) n 0) 1 ≡ false → getD (filledLists scan .ledger) n 0 ≡ getD (ledger* scan) n 0) unmarked-at k h)
 
     exact-length : length (ledger* scan) ≡ gatesOf (scan .head)
-    unfolding ledger* raysOf gatesOf
-    exact-length = gates-length _ _ _ (raysOf scan) ∙ regular-gates (scan .head .gates) (scan .azimuths) ∙ ap (λ (n : ℕ). n * scan .head .gates) rays
+    unfolding ledger* gatesOf
+    exact-length = so-many-gates scan _ rays
 
     counts : (cell : ℕ) → cell < cellsOf (scan .head) → Between (unmarkedCount scan ledger marks cell) (exactCount scan cell) (markedBeside scan marks cell)
     unfolding exactCount countOf sumOver contributes unmarkedCount markedBeside gatesThat isMarked isBeside
     counts cell below =
         rw exact-length
         (sums-between _ _ _ (gatesOf (scan .head))
-        (λ k h. gate-part cell (getD ledger k 0) (getD marks k 0) (getD (besideEach cell) k 0) (getD (ledger* scan) k 0) (isMeasured (getD (scan .values) k 0)) (unmarked-gate k h)
-        (every-gate (λ n. getD (ledger* scan) n 0 ≡ cell → getD (besideEach cell) n 0 ≡ 1) (λ i g a b. beside-at i g a b cell below) k h)))
+        (λ k h. gate-part cell (getD ledger k 0) (getD marks k 0) (getD (gatesBeside scan cell) k 0) (getD (ledger* scan) k 0) (isMeasured (getD (scan .values) k 0)) (unmarked-gate k h)
+        (every-gate (λ n. getD (ledger* scan) n 0 ≡ cell → getD (gatesBeside scan cell) n 0 ≡ 1) (λ i g a b. beside-at i g a b cell below) k h)))
 
     pub exact-by-marks : ExactByMarks scan ledger marks
     unfolding isMarked Between

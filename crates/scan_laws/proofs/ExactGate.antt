@@ -16,7 +16,7 @@ use Rattle.grid.specs.Window.{inSpan, cellNumber}
 use Rattle.grid.proofs.Cells.{in-span-natural}
 use Rattle.projection.specs.declared.position.Position.{Position}
 use Rattle.placement.specs.declared.gate.Placement.the-variants.{Inside, Outside}
-use Rattle.placement.specs.Gate.{entryOf, markOf, outsideEntry}
+use Rattle.placement.specs.Gate.{entryOf, markNumber, markOf, outsideEntry}
 use Rattle.placement.specs.Located.{column, row, inWindow, marked, located}
 use Rattle.placement.specs.ExactCell.{inside*, outside*, column*, row*, inWindow*, located*, entryOf*}
 use Rattle.placement.proofs.ExactCell.{column-beside, row-beside, entry-same}
@@ -24,11 +24,11 @@ use Rattle.scan_laws.specs.ExactCount.{atMostOneApart, besideCell, besid
 
 -- ---- what a placement tells, whichever it is
 
-mark-told : (window : Window) (at : Position) → markOf (located window at) ≡ cond (marked window at) 1 0
+mark-told : (window : Window) (at : Position) → markOf (located window at) ≡ markNumber (marked window at)
 unfolding located markOf
 mark-told window at = go (inWindow window at) _
   where
-    go : (inside : Bool) (cell : ℕ) → markOf (cond inside (Inside cell (at .x) (at .y) (marked window at)) (Outside (at .x) (at .y) (marked window at))) ≡ cond (marked window at) 1 0
+    go : (inside : Bool) (cell : ℕ) → markOf (cond inside (Inside cell (at .x) (at .y) (marked window at)) (Outside (at .x) (at .y) (marked window at))) ≡ markNumber (marked window at)
     go true cell = refl
     go false cell = refl
 
@@ -41,7 +41,7 @@ beside-told window cell at = go (inWindow window at) _
     go false own = refl
 
 -- a mark that is not 1 is none
-no-mark : (mark : Bool) → eqb (cond mark 1 0) 1 ≡ false → mark ≡ false
+no-mark : (mark : Bool) → eqb (markNumber mark) 1 ≡ false → mark ≡ false
 no-mark true e = e
 no-mark false e = refl
 

@@ -23,11 +23,10 @@ use Rattle.tally.specs.Gates.{isMeasured}
 use Rattle.scan_laws.specs.Placed.{isInside, gatePlacement, gateValue, isPlaced, placedOf}
 use Rattle.scan_ledger.specs.ScanLedger.{gatesTold}
 use Rattle.accepted_remap.specs.FilledLists.{filledLists}
-use Rattle.scan.specs.Scan.{cellsOf, Scan, raysOf}
+use Rattle.scan.specs.Scan.{cellsOf, Scan}
 use Rattle.tally.specs.Tally.{countOf, talliedSums}
 use Rattle.tally.proofs.CountTotal.{count-total}
-use Rattle.scan_laws.proofs.LedgerEntry.{ledger-entry}
-use Rattle.scan.proofs.RayLaws.{gates-length, regular-gates}
+use Rattle.scan_laws.proofs.LedgerEntry.{so-many-gates, ledger-entry}
 
 -- ---- the entry of a gate names one of the cells just where the gate is placed inside
 
@@ -62,10 +61,8 @@ gate-told scan i g h = unless-refused (windowOf (scan .head .grid)) _ h _
 
 module _ (scan : Scan) (azimuths : length (scan .azimuths) ≡ scan .head .rays) (cells : cellsOf (scan .head) ≤ 4294967295) where
   ledger-length : length (filledLists scan .ledger) ≡ scan .head .rays * scan .head .gates
-  unfolding filledLists gatesTold raysOf
-  ledger-length =
-      gates-length _ _ _ (raysOf scan) ∙ regular-gates (scan .head .gates) (scan .azimuths)
-      ∙ ap (λ (n : ℕ). n * scan .head .gates) azimuths
+  unfolding filledLists gatesTold
+  ledger-length = so-many-gates scan _ azimuths
 
   -- 1 where gate k is counted by some cell
   counted : ℕ → ℕ

@@ -46,9 +46,12 @@ module _ (scan : Scan) where
   unfoldable pub ledger* : List ℕ
   ledger* = allGates (λ ray range. entryOf* (cellOf* (scan .head .site) (scan .head .grid) (ray .azimuth) range)) (scan .head .first) (scan .head .spacing) (raysOf scan)
 
-  -- whether a gate's computed position lies beside a cell
+  -- for each gate 1 where its computed position lies beside a cell, and 0 where it does not
+  unfoldable pub gatesBeside : ℕ → List ℕ
+  gatesBeside cell = gatesTold (besideOf (windowOf (scan .head .grid)) cell) (scan .head) (raysOf scan)
+
   unfoldable pub isBeside : ℕ → ℕ → Bool
-  isBeside cell gate = eqb (getD (gatesTold (besideOf (windowOf (scan .head .grid)) cell) (scan .head) (raysOf scan)) gate 0) 1
+  isBeside cell gate = eqb (getD (gatesBeside cell) gate 0) 1
 
   -- ---- three counts of a cell
 
