@@ -59,7 +59,7 @@ fn quarter_sine(t: u32) -> i64
     ensures { λ r. ⌜ r ≡ quarterSine t ⌝ }
 {
     let a = (t / 1000) as usize;
-    let b = (t % 1000) as usize;
+    let b = (t % 1000) as u64;
     let s = coarse_sines::coarse_sines();
     let sum = product(s[a], fine_sines::fine_cosine(b))
         + product(s[900 - a], fine_sines::fine_sine(b));

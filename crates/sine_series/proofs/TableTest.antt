@@ -1,18 +1,16 @@
 -- The test of a table's entry, by the nested series, and what a passed test says of the series itself. Assumes nothing.
 use mathlib.Core.Path.{_≡_, refl, sym, subst}
 use mathlib.Core.Bool.{Bool, false}
-use mathlib.Core.List.{List}
 use Prim.Native.Nat.{ℕ, _*_, _<_, _≤_}
 use lib.Dec.{T, leb, ltb, leb→le, ltb→lt}
 use lib.IntN.{ℤ, pos, negsuc, natAbs}
-use lib.ListN.{getD}
 use Rattle.arithmetic.specs.Fraction.{Fraction, _⊕_, _⊗_, opposite, whole}
 use Rattle.arithmetic.specs.Nearness.{gap, error, nearest}
 use Rattle.arithmetic.proofs.Nearest.{nearest-only}
 use Rattle.arithmetic.proofs.Table.{both, both-left, both-right, all-from, at-each}
 use Rattle.arithmetic.proofs.Value.{same-value-half}
 use Rattle.sine_series.specs.Series.{arc, arcUnit, factorial, term, alternating, laterTerms}
-use Rattle.sine_series.specs.Tables.{Q, Tabulates}
+use Rattle.sine_series.specs.Tables.{Q}
 use Rattle.sine_series.proofs.NestedSeries.{ratio, nested, nested-series, alternating-positive}
 
 -- the series of the angle t whose first power is n, nested
@@ -38,11 +36,10 @@ rounds-half t n x p =
 pub rounds-nearest : (t n : ℕ) (x : ℤ) → T (rounds t n x) → nearest Q (alternating t laterTerms n) ≡ x
 rounds-nearest t n x p = nearest-only Q (alternating t laterTerms n) x (rounds-half t n x p)
 
--- the same of every entry of the code's table xs, whose k-th is for the angle that the first argument gives
-pub tabulates : (angle : ℕ → ℕ) (n count : ℕ) (xs : List ℕ) → T (all-from (λ k. rounds (angle k) n (pos (getD xs k 0))) 0 count) → Tabulates (λ k. nearest Q (alternating (angle k) laterTerms n)) count xs
-tabulates angle n count xs p = record {
-  at = λ k h. sym (rounds-nearest (angle k) n (pos (getD xs k 0)) (at-each (λ k. rounds (angle k) n (pos (getD xs k 0))) count p k h));
-}
+-- the same of each of the code's entries, whose k-th is for the angle that the first argument gives
+pub rounds-at-each : (angle : ℕ → ℕ) (n count : ℕ) (x : ℕ → ℕ) → T (all-from (λ k. rounds (angle k) n (pos (x k))) 0 count) → (k : ℕ) → k < count → pos (x k) ≡ nearest Q (alternating (angle k) laterTerms n)
+rounds-at-each angle n count x p k h =
+    sym (rounds-nearest (angle k) n (pos (x k)) (at-each (λ k. rounds (angle k) n (pos (x k))) count p k h))
 
 -- ---- the definition's entry: its range, and that it rounds
 

@@ -1,19 +1,30 @@
--- `fine_sines::fine_cosine` meets its contract. Assumes nothing.
+-- `fine_sines::fine_cosine` meets its contract: each step fits 64 bits, and the test of all thousand places, with
+-- the code's own numbers, is computed. Assumes nothing.
+use native.Mathlib.Omega.{arith}
 use borrow.Author.Needs.{needs}
+use Rattle.fine_sines.proofs.Formulas.{g-tested, square-most}
+use Rattle.sine_series.proofs.TableTest.{rounds}
 use Rattle.fine_sines.proofs.fine_cosine.Statement.{statement}
 use Rattle.fine_sines.proofs.fine_cosine.Tie as tie
 
-fine-cosines-requires : tie.Need-fine-cosines-requires
-fine-cosines-requires c κs = search needs
+mul-scaled : tie.Need-mul-scaled
+mul-scaled c = search needs
 
-mul-result : tie.Need-mul-result
-mul-result c = search needs
+mul-scaled-2 : tie.Need-mul-scaled-2
+mul-scaled-2 c = omega (arith, square-most (c .pre))
 
-array-read-result : tie.Need-array-read-result
-array-read-result c = search needs
+add-result : tie.Need-add-result
+add-result c = omega (arith, square-most (c .pre))
+
+sub-result : tie.Need-sub-result
+sub-result c = omega (arith, square-most (c .pre))
+
+cast-result : tie.Need-cast-result
+cast-result c = search needs
 
 returns : tie.Need-returns
-returns c = c .fine-cosines .ensures .at (c .before .args .b) (c .before .pre)
+unfolding rounds
+returns c = g-tested _ _ _ tt (c .args .b) (c .pre)
 
 pub fine-cosine-spec : {M : Type 1} → statement M
-fine-cosine-spec = tie.close (tie.spec fine-cosines-requires mul-result array-read-result returns)
+fine-cosine-spec = tie.close (tie.spec mul-scaled mul-scaled-2 add-result sub-result cast-result returns)

@@ -1,19 +1,37 @@
--- `fine_sines::fine_sine` meets its contract. Assumes nothing.
+-- `fine_sines::fine_sine` meets its contract: each step fits 64 bits, and the test of all thousand places, with
+-- the code's own numbers, is computed. Assumes nothing.
+use native.Mathlib.Omega.{arith}
 use borrow.Author.Needs.{needs}
+use Rattle.fine_sines.proofs.Formulas.{f-tested, square-most, cube-most}
+use Rattle.sine_series.proofs.TableTest.{rounds}
 use Rattle.fine_sines.proofs.fine_sine.Statement.{statement}
 use Rattle.fine_sines.proofs.fine_sine.Tie as tie
 
-fine-sines-requires : tie.Need-fine-sines-requires
-fine-sines-requires c κs = search needs
+mul-scaled : tie.Need-mul-scaled
+mul-scaled c = search needs
 
-mul-result : tie.Need-mul-result
-mul-result c = search needs
+mul-scaled-2 : tie.Need-mul-scaled-2
+mul-scaled-2 c = search needs
 
-array-read-result : tie.Need-array-read-result
-array-read-result c = search needs
+mul-scaled-3 : tie.Need-mul-scaled-3
+mul-scaled-3 c = omega (arith, square-most (c .pre))
+
+mul-scaled-4 : tie.Need-mul-scaled-4
+mul-scaled-4 c = omega (arith, cube-most (c .pre))
+
+sub-scaled : tie.Need-sub-scaled
+sub-scaled c = omega (arith, cube-most (c .pre))
+
+add-result : tie.Need-add-result
+add-result c = search needs
+
+cast-result : tie.Need-cast-result
+cast-result c = search needs
 
 returns : tie.Need-returns
-returns c = c .fine-sines .ensures .at (c .before .args .b) (c .before .pre)
+unfolding rounds
+returns c = f-tested _ _ _ _ tt (c .args .b) (c .pre)
 
 pub fine-sine-spec : {M : Type 1} → statement M
-fine-sine-spec = tie.close (tie.spec fine-sines-requires mul-result array-read-result returns)
+fine-sine-spec =
+    tie.close (tie.spec mul-scaled mul-scaled-2 mul-scaled-3 mul-scaled-4 sub-scaled add-result cast-result returns)
