@@ -29,6 +29,8 @@ $(SHARED): $(shell find crates crates.txt -type f)
 compare: library
 	$(CARGO) run --release -p at_scale -- $(N) $(SEED)
 
-# Times of whole scans, of the same gates one by one, of the plain program, and of numpy with PROJ, from one run.
+# Times of whole scans, of the same gates one by one, of the plain program, and of numpy with PROJ, from one run; bytes of stack, code, constants.
 bench: library
 	$(CARGO) run --release -p benchmark
+	@rt check sheet ledger gate $(QUIETLY)
+	@python3 tests/benchmark/sizes.py

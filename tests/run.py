@@ -30,6 +30,7 @@ COMPARISONS = (
     "compare_programs",
     "compare_bindings",
     "compare_python",
+    "compare_built_files",
     "compare_tables",
 )
 WITHOUT_THE_LIBRARY = ("compare_programs",)

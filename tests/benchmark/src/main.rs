@@ -1,11 +1,12 @@
 //! Times of a whole scan by the library, of the same gates fed to a sweep and by single calls, of the plain program, and of numpy with
-//! PROJ.
+//! PROJ; then of one sine and one placement, and bytes of stack.
 //!
 //! Every round works the whole scan and the plain program, for the scan of the full size the sweeps, every tenth the single calls too, and
 //! the best round of each counts. Nothing is asserted about speed; before anything is timed, the ledgers, marks and cells have to be the
 //! same.
 
 mod measure;
+mod one_call;
 mod pipeline;
 mod plain;
 mod report;
@@ -43,5 +44,7 @@ fn main() {
     report::print_ratios(&measured);
     report::print_growth(&measured);
     report::print_sweeps(&measured);
-    stack_of_calls::print_stack(&scene::hrap(FULL_SIZE.0, FULL_SIZE.1));
+    let scene = scene::hrap(FULL_SIZE.0, FULL_SIZE.1);
+    one_call::print_calls(&tables, &scene);
+    stack_of_calls::print_stack(&scene);
 }

@@ -14,9 +14,9 @@ use crate::scene::{lists_of, Scene};
 use crate::sweep::swept;
 use crate::FULL_SIZE;
 
-const LEAST_ROUNDS: u32 = 20;
-/// How long one scene is worked, once it has had the least rounds.
-const PATIENCE: Duration = Duration::from_secs(10);
+pub const LEAST_ROUNDS: u32 = 20;
+/// How long one scene or call is worked, once it has had the least rounds.
+pub const PATIENCE: Duration = Duration::from_secs(10);
 /// Single calls take many times as long as a whole scan, and come once in so many rounds.
 const ROUNDS_A_SINGLE: u32 = 10;
 
@@ -130,8 +130,8 @@ fn checked(tables: &Tables, scene: &Scene) -> Remapped {
     whole
 }
 
-/// Nanoseconds of one call.
-fn timed(work: impl FnOnce() -> u32) -> f64 {
+/// Nanoseconds of the work.
+pub fn timed<T>(work: impl FnOnce() -> T) -> f64 {
     let start = Instant::now();
     black_box(work());
     start.elapsed().as_nanos() as f64
