@@ -53,8 +53,8 @@ def built_files():
         data = path.read_bytes()
         found = shares(data)
         most = max(share for table in FINE for share in found[table].values())
-        looked = f"F and G in none of {sum(len(PACKINGS[table]) for table in FINE)} packings"
-        yield f"{name}, {len(data)} bytes: has table S, {looked}, at most {float(most):.0%} of the pieces of one", faults_of(found)
+        looked = f"neither F nor G in any of {sum(len(PACKINGS[table]) for table in FINE)} packings"
+        yield f"{name}, {len(data)} bytes, has table S, and {looked}: at most {float(most):.0%} of one's pieces", faults_of(found)
 
 
 # Files that have a table.
