@@ -14,9 +14,9 @@ use crate::scene::{lists_of, Scene};
 use crate::sweep::swept;
 use crate::FULL_SIZE;
 
-pub const LEAST_ROUNDS: u32 = 20;
+const LEAST_ROUNDS: u32 = 20;
 /// How long one scene or call is worked, once it has had the least rounds.
-pub const PATIENCE: Duration = Duration::from_secs(10);
+const PATIENCE: Duration = Duration::from_secs(10);
 /// Single calls take many times as long as a whole scan, and come once in so many rounds.
 const ROUNDS_A_SINGLE: u32 = 10;
 
@@ -153,18 +153,25 @@ fn round(tables: &Tables, scene: &Scene, lists: &mut [Remapped; 2], with_single:
     [whole, single, plain, ray_by_ray, in_groups]
 }
 
-pub fn measure(tables: &Tables, scene: &Scene, pipeline: Option<&Pipeline>) -> Times {
-    let mut lists = [checked(tables, scene), lists_of(scene)];
-    let pipeline = pipeline.and_then(|found| found.measure(scene, &lists[0].ledger));
-    let (mut best, mut rounds, start) = ([f64::INFINITY; 5], 0, Instant::now());
+/// The least of each time over all rounds, which are given their numbers, and how many rounds there were.
+pub fn best_round<const N: usize>(mut round: impl FnMut(u32) -> [f64; N]) -> ([f64; N], u32) {
+    let (mut best, mut rounds, start) = ([f64::INFINITY; N], 0, Instant::now());
     while rounds < LEAST_ROUNDS || start.elapsed() < PATIENCE {
-        let with_single = rounds % ROUNDS_A_SINGLE == 0;
-        let took = round(tables, black_box(scene), &mut lists, with_single);
-        for (least, now) in best.iter_mut().zip(took) {
+        for (least, now) in best.iter_mut().zip(round(rounds)) {
             *least = least.min(now);
         }
         rounds += 1;
     }
+    (best, rounds)
+}
+
+pub fn measure(tables: &Tables, scene: &Scene, pipeline: Option<&Pipeline>) -> Times {
+    let mut lists = [checked(tables, scene), lists_of(scene)];
+    let pipeline = pipeline.and_then(|found| found.measure(scene, &lists[0].ledger));
+    let (best, rounds) = best_round(|number| {
+        let with_single = number % ROUNDS_A_SINGLE == 0;
+        round(tables, black_box(scene), &mut lists, with_single)
+    });
     let [whole, single, plain, ray_by_ray, in_groups] =
         best.map(|time| time / scene.values.len() as f64);
     Times {

@@ -2,14 +2,13 @@
 
 use std::hint::black_box;
 use std::process::exit;
-use std::time::Instant;
 
 use at_scale::library::{from_head, from_placement};
 use plain_program::placement;
 use plain_program::sine::Tables;
 use uldrevin::{place, sine};
 
-use crate::measure::{timed, LEAST_ROUNDS, PATIENCE};
+use crate::measure::{best_round, timed};
 use crate::scene::Scene;
 
 /// In one round.
@@ -37,14 +36,7 @@ fn print_row<T: PartialEq>(name: &str, library: impl Fn(u32) -> T, plain: impl F
         println!("different: {name} of call {call} by the library and by the plain program");
         exit(1);
     }
-    let (mut best, mut rounds, start) = ([f64::INFINITY; 2], 0, Instant::now());
-    while rounds < LEAST_ROUNDS || start.elapsed() < PATIENCE {
-        let took = [timed(|| all_calls(&library)), timed(|| all_calls(&plain))];
-        for (least, now) in best.iter_mut().zip(took) {
-            *least = least.min(now);
-        }
-        rounds += 1;
-    }
+    let (best, _) = best_round(|_| [timed(|| all_calls(&library)), timed(|| all_calls(&plain))]);
     let [library, plain] = best.map(|time| time / f64::from(CALLS));
     let ratio = library / plain;
     println!("| {name} | {library:.1} | {plain:.1} | {ratio:.2} |");

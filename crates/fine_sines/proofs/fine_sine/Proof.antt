@@ -1,5 +1,4 @@
--- `fine_sines::fine_sine` meets its contract: each step fits 64 bits, and the test of all thousand places, with
--- the code's own numbers, is computed. Assumes nothing.
+-- `fine_sines::fine_sine` meets its contract: each step fits 64 bits, and its formula gives the entry. Assumes nothing.
 use native.Mathlib.Omega.{arith}
 use borrow.Author.Needs.{needs}
 use Rattle.fine_sines.proofs.Formulas.{f-tested, square-most, cube-most}
@@ -28,6 +27,7 @@ add-result c = search needs
 cast-result : tie.Need-cast-result
 cast-result c = search needs
 
+-- each `_` is a number of the code, and `tt` says that the test with them computes to true
 returns : tie.Need-returns
 unfolding rounds
 returns c = f-tested _ _ _ _ tt (c .args .b) (c .pre)
