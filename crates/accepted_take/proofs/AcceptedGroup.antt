@@ -20,6 +20,7 @@ use Rattle.placement.proofs.SurveyLimits.{surveyed-of}
 use Rattle.tally.specs.LentSums.{Sums}
 use Rattle.tally.specs.Tally.{addedSums}
 use Rattle.scan.specs.declared.head.ScanHead.{ScanHead}
+use Rattle.scan.specs.LentLists.{Lists}
 use Rattle.scan.specs.Rays.{regularRays}
 use Rattle.scan.specs.Scan.{gatesOf, cellsOf}
 use Rattle.scan.specs.ScanRefusal.{centresAccepted, qualityAccepted}
@@ -32,7 +33,7 @@ use Rattle.group_sums.specs.GroupRoom.{GroupAddable}
 use Rattle.sweep_checks.specs.SweepLengths.{sumsAccepted, groupAccepted}
 use Rattle.sweep_checks.specs.SweepNumbers.{takeNumber}
 use Rattle.sweep_checks.proofs.PassedState.{passed-state}
-use Rattle.accepted_take.specs.RayGroup.{RayGroup, RayLists}
+use Rattle.accepted_take.specs.RayGroup.{RayGroup}
 use Rattle.accepted_take.specs.TakenLists.{groupLengths, sumLengths, groupLedger, groupMarks, takenLists, takeChecks, TakesGroup}
 
 -- ---- the lengths
@@ -41,17 +42,24 @@ pub record AcceptedSums (head : ScanHead) (sums : Sums) : Type 0 where
   pub counts-length : length (sums .counts) ≡ cellsOf head
   pub quality-sums-length : length (sums .qualitySums) ≡ cellsOf head
   pub value-sums-length : length (sums .valueSums) ≡ cellsOf head
+  pub weighted-sums-length : length (sums .weightedSums) ≡ cellsOf head
 
 pub accepted-sums : (head : ScanHead) (sums : Sums) → sumsAccepted head (sumLengths sums) ≡ true → AcceptedSums head sums
 unfolding sumsAccepted
 accepted-sums head sums e =
     let first = and-true _ _ e in
     let second = and-true _ _ (first .1) in
-    record { counts-length = eqb-true _ _ (first .0); quality-sums-length = eqb-true _ _ (second .0); value-sums-length = eqb-true _ _ (second .1) }
+    let third = and-true _ _ (second .1) in
+    record {
+      counts-length = eqb-true _ _ (first .0);
+      quality-sums-length = eqb-true _ _ (second .0);
+      value-sums-length = eqb-true _ _ (third .0);
+      weighted-sums-length = eqb-true _ _ (third .1);
+    }
 
 -- ---- a group that is not refused, with the lists that are lent for it
 
-pub record AcceptedGroup (head : ScanHead) (closed : Bool) (taken : ℕ) (group : RayGroup) (lists : RayLists) : Type 0 where
+pub record AcceptedGroup (head : ScanHead) (closed : Bool) (taken : ℕ) (group : RayGroup) (lists : Lists) : Type 0 where
   pub open-yet : closed ≡ false
   pub rays-most : taken + length (group .azimuths) ≤ head .rays
   pub rays-limit : head .rays ≤ 720
@@ -69,7 +77,7 @@ pub record AcceptedGroup (head : ScanHead) (closed : Bool) (taken : ℕ) (group 
   pub azimuths-good : allOf azimuthAccepted (group .azimuths) ≡ true
   pub qualities-good : allOf qualityAccepted (group .qualities) ≡ true
 
-pub accepted-group : (head : ScanHead) (closed : Bool) (taken : ℕ) (group : RayGroup) (lists : RayLists) → takeChecks head closed taken group lists ≡ 0 → AcceptedGroup head closed taken group lists
+pub accepted-group : (head : ScanHead) (closed : Bool) (taken : ℕ) (group : RayGroup) (lists : Lists) → takeChecks head closed taken group lists ≡ 0 → AcceptedGroup head closed taken group lists
 unfolding takeChecks takeNumber groupAccepted
 accepted-group head closed taken group lists e =
     let both = then-none _ _ e in
@@ -102,7 +110,7 @@ accepted-group head closed taken group lists e =
 
 -- ---- what each step needs
 
-module _ {head : ScanHead} {closed : Bool} {taken : ℕ} {group : RayGroup} {lists : RayLists} (good : AcceptedGroup head closed taken group lists) where
+module _ {head : ScanHead} {closed : Bool} {taken : ℕ} {group : RayGroup} {lists : Lists} (good : AcceptedGroup head closed taken group lists) where
   pub is-surveyed : Surveyed (surveyOf (head .site) (head .grid))
   is-surveyed = surveyed-of (head .site) (head .grid) (good .site) (good .grid)
 
@@ -115,6 +123,7 @@ module _ {head : ScanHead} {closed : Bool} {taken : ℕ} {group : RayGroup} {lis
         qualities-length = good .qualities-length ∙ gates;
         quality-sums-length = good .sums .quality-sums-length ∙ sym (good .sums .counts-length);
         value-sums-length = good .sums .value-sums-length ∙ sym (good .sums .counts-length);
+        weighted-sums-length = good .sums .weighted-sums-length ∙ sym (good .sums .counts-length);
         ranges = λ g h. centres-most (head .gates) (head .first) (head .spacing) g (good .centres) (omega arith);
       }
 
@@ -137,12 +146,12 @@ module _ {head : ScanHead} {closed : Bool} {taken : ℕ} {group : RayGroup} {lis
 
   -- ---- the answer
 
-  module _ {written : List ℕ} {sums : Sums} {added : Bool} (is : written ≡ groupLedger head group) (adds : AddsAll (head .weighting) written (group .values) (group .qualities) (record { entry = lists .sums; exit = sums }) added) where
+  module _ {written : List ℕ} {sums : Sums} {added : Bool} (is : written ≡ groupLedger head group) (adds : AddsAll written (group .values) (group .qualities) (record { entry = lists .sums; exit = sums }) added) where
     pub group-taken : {ledger marks : List ℕ} → added ≡ true → ledger ≡ sets (lists .ledger) (taken * head .gates) (groupLedger head group) → marks ≡ sets (lists .marks) (taken * head .gates) (groupMarks head group) → TakesGroup head taken group (record { entry = lists; exit = record { ledger = ledger; marks = marks; sums = sums } }) true
     unfolding takenLists
     group-taken was e m =
         let there = rw is at adds in
-        let all : sums ≡ addedSums (head .weighting) (groupLedger head group) (group .values) (group .qualities) (lists .sums) = rw was at (there .the-sums) in
+        let all : sums ≡ addedSums (groupLedger head group) (group .values) (group .qualities) (lists .sums) = rw was at (there .the-sums) in
         record {
           the-answer = sym was ∙ there .the-answer;
           the-lists = λ i. record { ledger = e i; marks = m i; sums = all i };

@@ -4,7 +4,8 @@ use scan::ScanHead;
 use scan_ledger::scan_ledger;
 ghost use mathlib.Core.Bool.{false};
 ghost use mathlib.Core.Path.{_≡_};
-ghost use Rattle.accepted_take.specs.RayGroup.{groupHeld, rayListsHeld, lentRayLists};
+ghost use Rattle.scan.specs.LentLists.{listsHeld, lentLists};
+ghost use Rattle.accepted_take.specs.RayGroup.{groupHeld};
 ghost use Rattle.accepted_take.specs.TakenLists.{takeChecks, TakesGroup};
 
 // Ledger and marks may not be written before the group is known to fit, so each ray's entries are worked out into an array first, and again for the
@@ -20,19 +21,18 @@ pub fn accepted_take(
     counts: &mut [u32],
     quality_sums: &mut [u32],
     value_sums: &mut [u64],
+    weighted_sums: &mut [u64],
 ) -> bool
-    requires { ⌜ takeChecks head false taken (groupHeld azimuths values qualities) (rayListsHeld ledger marks counts «quality_sums» «value_sums») ≡ 0 ⌝ }
-    ensures { λ r. ⌜ TakesGroup head taken (groupHeld (azimuths .entry) (values .entry) (qualities .entry)) (lentRayLists ledger marks counts «quality_sums» «value_sums») r ⌝ }
+    requires { ⌜ takeChecks head false taken (groupHeld azimuths values qualities) (listsHeld ledger marks counts «quality_sums» «value_sums» «weighted_sums») ≡ 0 ⌝ }
+    ensures { λ r. ⌜ TakesGroup head taken (groupHeld (azimuths .entry) (values .entry) (qualities .entry)) (lentLists ledger marks counts «quality_sums» «value_sums» «weighted_sums») r ⌝ }
 {
     let site = head.site;
     let grid = head.grid;
-    let weighting = head.weighting;
     let gates = head.gates as usize;
     let survey = placement::survey_of(site, grid);
     let mut entries = [0u32; 1000];
     if !add_rays(
         survey,
-        weighting,
         head.first,
         head.spacing,
         &mut entries[..gates],
@@ -42,6 +42,7 @@ pub fn accepted_take(
         counts,
         quality_sums,
         value_sums,
+        weighted_sums,
     ) {
         return false;
     }

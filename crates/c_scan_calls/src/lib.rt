@@ -1,7 +1,9 @@
-// A gate placed and a whole scan remapped, from C's structs. The answer is 0, with what is lent written, or the refusal number, with all that is lent as
-// it came in.
+// A gate placed, a scan tallied and sums published, from what C gives. The answer is 0, with what is lent written, or the refusal number, with all
+// that is lent as it came in.
 mod gate;
-mod whole_scan;
+mod published_sums;
+mod tallied_scan;
 
 pub use gate::answer_place;
-pub use whole_scan::answer_remap;
+pub use published_sums::answer_publish;
+pub use tallied_scan::answer_tally;

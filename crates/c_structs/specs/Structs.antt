@@ -10,8 +10,8 @@ use Rattle.limits.specs.declared.grid.Grid.the-variants.{Radolan, Hrap}
 use Rattle.limits.specs.declared.site.Site.{Site}
 use Rattle.refusal.specs.Answer.{Answer, gives, refuses}
 use Rattle.refusal.specs.Unsigned.{unsigned32}
-use Rattle.tally.specs.declared.gates.Weighting.{Weighting}
-use Rattle.tally.specs.declared.gates.Weighting.the-variants.{Plain, ByQuality}
+use Rattle.limits.specs.declared.weighting.Weighting.{Weighting}
+use Rattle.limits.specs.declared.weighting.Weighting.the-variants.{Plain, ByQuality}
 use Rattle.scan.specs.declared.head.ScanHead.{ScanHead}
 use Rattle.record_contents.specs.RecordBytes.{weightingByte}
 use Rattle.c_structs.specs.declared.GridNumbers.{GridNumbers}

@@ -3,10 +3,10 @@ use limits::Grid;
 use limits::HrapGrid;
 use limits::RadolanGrid;
 use limits::Site;
+use limits::Weighting;
 use record_contents::weighting_byte;
 use refusal::unsigned32;
 use scan::ScanHead;
-use tally::Weighting;
 ghost use mathlib.Core.Path.{_≡_};
 ghost use Rattle.c_structs.specs.Structs.{siteAt, gridAt, gridOf, weightingOf, headOf, gridNumbers, headNumbers};
 
@@ -75,7 +75,7 @@ pub fn grid_at(numbers: &[i64; 6]) -> Grid
 }
 
 // 0 plain, any other number by quality.
-fn weighting_of(z: i64) -> Weighting
+pub fn weighting_of(z: i64) -> Weighting
     ensures { λ r. ⌜ r ≡ weightingOf z ⌝ }
 {
     if z == 0 {

@@ -11,12 +11,19 @@ pub fn answer_open(
     counts: &mut [u32],
     quality_sums: &mut [u32],
     value_sums: &mut [u64],
+    weighted_sums: &mut [u64],
     sweep: &mut [i64; 15],
 ) -> u32
-    ensures { λ r. ⌜ OpensSweep scan counts «quality_sums» «value_sums» sweep r ⌝ }
+    ensures { λ r. ⌜ OpensSweep scan counts «quality_sums» «value_sums» «weighted_sums» sweep r ⌝ }
 {
     answer_sweep(
-        Sweep::open(head_of(scan), counts, quality_sums, value_sums),
+        Sweep::open(
+            head_of(scan),
+            counts,
+            quality_sums,
+            value_sums,
+            weighted_sums,
+        ),
         sweep,
     )
 }
@@ -31,8 +38,9 @@ pub fn answer_take(
     counts: &mut [u32],
     quality_sums: &mut [u32],
     value_sums: &mut [u64],
+    weighted_sums: &mut [u64],
 ) -> u32
-    ensures { λ r. ⌜ TakesRays sweep azimuths values qualities ledger marks counts «quality_sums» «value_sums» r ⌝ }
+    ensures { λ r. ⌜ TakesRays sweep azimuths values qualities ledger marks counts «quality_sums» «value_sums» «weighted_sums» r ⌝ }
 {
     let state = sweep_of(sweep);
     answer_sweep(
@@ -45,6 +53,7 @@ pub fn answer_take(
             counts,
             quality_sums,
             value_sums,
+            weighted_sums,
         ),
         sweep,
     )
@@ -55,14 +64,22 @@ pub fn answer_close(
     counts: &[u32],
     quality_sums: &[u32],
     value_sums: &[u64],
+    weighted_sums: &[u64],
     means: &mut [u16],
     cell_qualities: &mut [u8],
 ) -> u32
-    ensures { λ r. ⌜ ClosesSweep sweep counts «quality_sums» «value_sums» means «cell_qualities» r ⌝ }
+    ensures { λ r. ⌜ ClosesSweep sweep counts «quality_sums» «value_sums» «weighted_sums» means «cell_qualities» r ⌝ }
 {
     let state = sweep_of(sweep);
     answer_sweep(
-        state.close(counts, quality_sums, value_sums, means, cell_qualities),
+        state.close(
+            counts,
+            quality_sums,
+            value_sums,
+            weighted_sums,
+            means,
+            cell_qualities,
+        ),
         sweep,
     )
 }

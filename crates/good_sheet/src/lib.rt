@@ -23,6 +23,7 @@ pub fn good_sheet(bytes: &[u8], head: ScanHead, page: &mut [u8; 120000]) -> usiz
     let mut counts = [0u32; 1024];
     let mut quality_sums = [0u32; 1024];
     let mut value_sums = [0u64; 1024];
+    let mut weighted_sums = [0u64; 1024];
     let mut means = [0u16; 1024];
     let mut cell_qualities = [0u8; 1024];
     cells_text(
@@ -36,6 +37,7 @@ pub fn good_sheet(bytes: &[u8], head: ScanHead, page: &mut [u8; 120000]) -> usiz
         &mut counts[..cells],
         &mut quality_sums[..cells],
         &mut value_sums[..cells],
+        &mut weighted_sums[..cells],
         &mut means[..cells],
         &mut cell_qualities[..cells],
         page,

@@ -9,8 +9,7 @@ use lib.Dec.{leb}
 use lib.ListN.{length, getD}
 use Rattle.arithmetic.proofs.Places.{all-at}
 use Rattle.arithmetic.proofs.Test.{and-true}
-use Rattle.tally.specs.declared.gates.Weighting.{Weighting}
-use Rattle.tally.specs.Gates.{weighed}
+use Rattle.tally.specs.Gates.{echoOf, weightedEcho}
 use Rattle.tally.specs.LentSums.{Sums}
 use Rattle.tally.specs.Tally.{sumOver, added, addedFirst}
 use Rattle.tally.specs.Width.{most32, most64, within, fitWidths}
@@ -30,19 +29,21 @@ module _ (ledger values qualities : List ℕ) (n m : ℕ) (h : n ≤ m) where
       let j : cell < length held = omega (arith, added-length fewer held) in
       omega (arith, within-at most (added more held) e cell, added-at more held cell j, added-at fewer held cell j, fewer-gates ledger values qualities share n m cell h))
 
-  fewer-fit : (weighting : Weighting) (sums : Sums) → fitWidths (addedFirst weighting ledger values qualities m sums) ≡ true → fitWidths (addedFirst weighting ledger values qualities n sums) ≡ true
+  fewer-fit : (sums : Sums) → fitWidths (addedFirst ledger values qualities m sums) ≡ true → fitWidths (addedFirst ledger values qualities n sums) ≡ true
   unfolding fitWidths addedFirst
-  fewer-fit weighting sums e =
+  fewer-fit sums e =
       let first = and-true _ _ e in
       let second = and-true _ _ (first .1) in
+      let third = and-true _ _ (second .1) in
       all-fit _
       (list-fits (λ value quality. 1) most32 (sums .counts) (first .0))
       (list-fits (λ value quality. quality) most32 (sums .qualitySums) (second .0))
-      (list-fits (weighed weighting) most64 (sums .valueSums) (second .1))
+      (list-fits (λ value quality. echoOf value) most64 (sums .valueSums) (third .0))
+      (list-fits weightedEcho most64 (sums .weightedSums) (third .1))
 
-  pub more-fail : (weighting : Weighting) (sums : Sums) → fitWidths (addedFirst weighting ledger values qualities n sums) ≡ false → fitWidths (addedFirst weighting ledger values qualities m sums) ≡ false
-  more-fail weighting sums e = go (fitWidths (addedFirst weighting ledger values qualities m sums)) refl
+  pub more-fail : (sums : Sums) → fitWidths (addedFirst ledger values qualities n sums) ≡ false → fitWidths (addedFirst ledger values qualities m sums) ≡ false
+  more-fail sums e = go (fitWidths (addedFirst ledger values qualities m sums)) refl
     where
-      go : (t : Bool) → fitWidths (addedFirst weighting ledger values qualities m sums) ≡ t → t ≡ false
-      go true f = sym (fewer-fit weighting sums f) ∙ e
+      go : (t : Bool) → fitWidths (addedFirst ledger values qualities m sums) ≡ t → t ≡ false
+      go true f = sym (fewer-fit sums f) ∙ e
       go false f = refl

@@ -11,7 +11,6 @@ use Rattle.arithmetic.proofs.Places.{table-length, table-at}
 use Rattle.placement.specs.declared.survey.Survey.{Survey}
 use Rattle.placement.specs.Gate.{entryOf}
 use Rattle.placement.specs.Survey.{surveyedGate, surveyedRay}
-use Rattle.tally.specs.declared.gates.Weighting.{Weighting}
 use Rattle.tally.specs.LentSums.{Sums}
 use Rattle.tally.specs.Tally.{addedFirst, addedSums}
 use Rattle.tally.proofs.TallyTurn.{added-length}
@@ -51,7 +50,7 @@ part-length : (start end : ℕ) (list : List ℕ) → start ≤ end → end ≤ 
 part-length start end list h i = length-take-le (end - start) (drop start list) (omega (arith, length-drop start list))
 
 -- sums onto which gates are added keep their lengths
-module _ (weighting : Weighting) (ledger values qualities : List ℕ) (n : ℕ) (before : Sums) {sums : Sums} (e : sums ≡ addedFirst weighting ledger values qualities n before) where
+module _ (ledger values qualities : List ℕ) (n : ℕ) (before : Sums) {sums : Sums} (e : sums ≡ addedFirst ledger values qualities n before) where
   pub counts-kept : length (sums .counts) ≡ length (before .counts)
   unfolding addedFirst
   counts-kept = ap (λ (s : Sums). length (s .counts)) e ∙ added-length _ (before .counts)
@@ -64,16 +63,21 @@ module _ (weighting : Weighting) (ledger values qualities : List ℕ) (n : ℕ) 
   unfolding addedFirst
   value-sums-kept = ap (λ (s : Sums). length (s .valueSums)) e ∙ added-length _ (before .valueSums)
 
+  pub weighted-sums-kept : length (sums .weightedSums) ≡ length (before .weightedSums)
+  unfolding addedFirst
+  weighted-sums-kept = ap (λ (s : Sums). length (s .weightedSums)) e ∙ added-length _ (before .weightedSums)
+
 -- room for the group's gates is room for them behind gates that were added
-pub same-room : {first spacing : ℕ} {entries₀ entries azimuths values qualities : List ℕ} {sums₀ : Sums} → GroupAddable first spacing entries₀ azimuths values qualities sums₀ → length entries ≡ length entries₀ → (weighting : Weighting) (ledger : List ℕ) (n : ℕ) {sums : Sums} → sums ≡ addedFirst weighting ledger values qualities n sums₀ → GroupAddable first spacing entries azimuths values qualities sums
-same-room {azimuths = azimuths} room same weighting ledger n e =
+pub same-room : {first spacing : ℕ} {entries₀ entries azimuths values qualities : List ℕ} {sums₀ : Sums} → GroupAddable first spacing entries₀ azimuths values qualities sums₀ → length entries ≡ length entries₀ → (ledger : List ℕ) (n : ℕ) {sums : Sums} → sums ≡ addedFirst ledger values qualities n sums₀ → GroupAddable first spacing entries azimuths values qualities sums
+same-room {azimuths = azimuths} room same ledger n e =
     let gates = ap (λ (g : ℕ). length azimuths * g) (sym same) in
     record {
       gates-most = omega (arith, room .gates-most);
       values-length = room .values-length ∙ gates;
       qualities-length = room .qualities-length ∙ gates;
-      quality-sums-length = quality-sums-kept _ _ _ _ _ _ e ∙ room .quality-sums-length ∙ sym (counts-kept _ _ _ _ _ _ e);
-      value-sums-length = value-sums-kept _ _ _ _ _ _ e ∙ room .value-sums-length ∙ sym (counts-kept _ _ _ _ _ _ e);
+      quality-sums-length = quality-sums-kept _ _ _ _ _ e ∙ room .quality-sums-length ∙ sym (counts-kept _ _ _ _ _ e);
+      value-sums-length = value-sums-kept _ _ _ _ _ e ∙ room .value-sums-length ∙ sym (counts-kept _ _ _ _ _ e);
+      weighted-sums-length = weighted-sums-kept _ _ _ _ _ e ∙ room .weighted-sums-length ∙ sym (counts-kept _ _ _ _ _ e);
       ranges = λ g h. room .ranges g (omega arith);
     }
 
@@ -95,13 +99,13 @@ module _ (survey : Survey) (first spacing gates : ℕ) (azimuths values qualitie
   is-part = record { same-entries = entry-at; same-values = part-at values; same-qualities = part-at qualities }
 
   -- added onto the rays before it
-  pub added-behind : (weighting : Weighting) (sums : Sums) → addedSums weighting (rayOf survey first spacing gates azimuths ray) (partOf start end values) (partOf start end qualities) (addedFirst weighting (groupLedger survey first spacing gates azimuths) values qualities start sums) ≡ addedFirst weighting (groupLedger survey first spacing gates azimuths) values qualities (start + gates) sums
+  pub added-behind : (sums : Sums) → addedSums (rayOf survey first spacing gates azimuths ray) (partOf start end values) (partOf start end qualities) (addedFirst (groupLedger survey first spacing gates azimuths) values qualities start sums) ≡ addedFirst (groupLedger survey first spacing gates azimuths) values qualities (start + gates) sums
   unfolding addedSums
-  added-behind weighting sums = rw this-length (added-on is-part weighting sums)
+  added-behind sums = rw this-length (added-on is-part sums)
 
   -- room for the ray's gates, where there is room for the group's
-  pub ray-room : {entries₀ entries : List ℕ} {sums₀ sums : Sums} → GroupAddable first spacing entries₀ azimuths values qualities sums₀ → length entries₀ ≡ gates → length entries ≡ gates → length (sums .qualitySums) ≡ length (sums .counts) → length (sums .valueSums) ≡ length (sums .counts) → RayAddable first spacing entries (partOf start end values) (partOf start end qualities) sums
-  ray-room {entries₀} room same₀ same q v =
+  pub ray-room : {entries₀ entries : List ℕ} {sums₀ sums : Sums} → GroupAddable first spacing entries₀ azimuths values qualities sums₀ → length entries₀ ≡ gates → length entries ≡ gates → length (sums .qualitySums) ≡ length (sums .counts) → length (sums .valueSums) ≡ length (sums .counts) → length (sums .weightedSums) ≡ length (sums .counts) → RayAddable first spacing entries (partOf start end values) (partOf start end qualities) sums
+  ray-room {entries₀} room same₀ same q v w =
       let behind = ray-end ray (length azimuths) gates inside in
       let all : length azimuths * length entries₀ ≡ length azimuths * gates = ap (λ (n : ℕ). length azimuths * n) same₀ in
       record {
@@ -110,5 +114,6 @@ module _ (survey : Survey) (first spacing gates : ℕ) (azimuths values qualitie
         qualities-length = part-length start end qualities (omega arith) (omega (arith, room .qualities-length)) ∙ omega arith;
         quality-sums-length = q;
         value-sums-length = v;
+        weighted-sums-length = w;
         ranges = λ g h. room .ranges g (omega arith);
       }

@@ -3,7 +3,6 @@ use mathlib.Core.List.{List}
 use mathlib.Core.Path.{_≡_}
 use Prim.Native.Nat.{ℕ, _+_, _*_, _≤_, _<_}
 use lib.ListN.{length}
-use Rattle.tally.specs.declared.gates.Weighting.{Weighting}
 use Rattle.tally.specs.LentSums.{Sums}
 use Rattle.tally.specs.Tally.{addedFirst}
 
@@ -15,9 +14,10 @@ pub record GroupAddable (first spacing : ℕ) (entries azimuths values qualities
   pub qualities-length : length qualities ≡ length azimuths * length entries
   pub quality-sums-length : length (sums .qualitySums) ≡ length (sums .counts)
   pub value-sums-length : length (sums .valueSums) ≡ length (sums .counts)
+  pub weighted-sums-length : length (sums .weightedSums) ≡ length (sums .counts)
   pub ranges : (g : ℕ) → g < length entries → first + g * spacing ≤ 46000000
 
 -- the sums are what some sums became when the first gates were added
-pub record RaysAdded (weighting : Weighting) (ledger values qualities : List ℕ) (gates : ℕ) (sums : Sums) : Type 0 where
+pub record RaysAdded (ledger values qualities : List ℕ) (gates : ℕ) (sums : Sums) : Type 0 where
   pub before : Sums
-  pub added-then : sums ≡ addedFirst weighting ledger values qualities gates before
+  pub added-then : sums ≡ addedFirst ledger values qualities gates before

@@ -5,7 +5,6 @@ mod undo;
 use crate::undo::take_out_rays;
 use placement::Survey;
 use ray_sums::add_ray;
-use tally::Weighting;
 ghost use lib.ListN.{length};
 ghost use Rattle.placement.specs.Gate.{entryOf};
 ghost use Rattle.placement.specs.Survey.{Surveyed};
@@ -19,7 +18,6 @@ ghost use Rattle.group_sums.specs.GroupRoom.{GroupAddable};
 // the rays.
 pub fn add_rays(
     survey: Survey,
-    weighting: Weighting,
     first: u32,
     spacing: u32,
     entries: &mut [u32],
@@ -29,9 +27,10 @@ pub fn add_rays(
     counts: &mut [u32],
     quality_sums: &mut [u32],
     value_sums: &mut [u64],
+    weighted_sums: &mut [u64],
 ) -> bool
-    requires { ⌜ Surveyed survey × GroupAddable first spacing (now entries) (now azimuths) (now values) (now qualities) (sumsHeld counts «quality_sums» «value_sums») ⌝ }
-    ensures { λ r. ⌜ AddsAll weighting (surveyedGates entryOf survey first spacing (regularRays (length (now (entries .entry))) (now (azimuths .entry)))) (now (values .entry)) (now (qualities .entry)) (lentSums counts «quality_sums» «value_sums») r ⌝ }
+    requires { ⌜ Surveyed survey × GroupAddable first spacing (now entries) (now azimuths) (now values) (now qualities) (sumsHeld counts «quality_sums» «value_sums» «weighted_sums») ⌝ }
+    ensures { λ r. ⌜ AddsAll (surveyedGates entryOf survey first spacing (regularRays (length (now (entries .entry))) (now (azimuths .entry)))) (now (values .entry)) (now (qualities .entry)) (lentSums counts «quality_sums» «value_sums» «weighted_sums») r ⌝ }
 {
     let gates = entries.len();
     let mut start = 0;
@@ -40,7 +39,6 @@ pub fn add_rays(
         let end = start + gates;
         if !add_ray(
             survey,
-            weighting,
             azimuths[ray],
             first,
             spacing,
@@ -50,10 +48,10 @@ pub fn add_rays(
             counts,
             quality_sums,
             value_sums,
+            weighted_sums,
         ) {
             take_out_rays(
                 survey,
-                weighting,
                 first,
                 spacing,
                 entries,
@@ -64,6 +62,7 @@ pub fn add_rays(
                 counts,
                 quality_sums,
                 value_sums,
+                weighted_sums,
             );
             return false;
         }

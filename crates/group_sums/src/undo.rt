@@ -1,7 +1,6 @@
 // The first rays of a group, taken out of the sums again.
 use placement::Survey;
 use ray_sums::take_out_ray;
-use tally::Weighting;
 ghost use mathlib.Core.Path.{_≡_};
 ghost use Prim.Native.Nat.{_*_, _≤_};
 ghost use lib.ListN.{length};
@@ -16,7 +15,6 @@ ghost use Rattle.group_sums.specs.GroupRoom.{GroupAddable, RaysAdded};
 // Leaves the sums onto which the first rays were added. The ray that was added last goes first.
 pub fn take_out_rays(
     survey: Survey,
-    weighting: Weighting,
     first: u32,
     spacing: u32,
     entries: &mut [u32],
@@ -27,15 +25,16 @@ pub fn take_out_rays(
     counts: &mut [u32],
     quality_sums: &mut [u32],
     value_sums: &mut [u64],
+    weighted_sums: &mut [u64],
 )
     requires { ⌜ Surveyed survey
-        × GroupAddable first spacing (now entries) (now azimuths) (now values) (now qualities) (sumsHeld counts «quality_sums» «value_sums»)
+        × GroupAddable first spacing (now entries) (now azimuths) (now values) (now qualities) (sumsHeld counts «quality_sums» «value_sums» «weighted_sums»)
         × (rays ≤ length (now azimuths))
-        × RaysAdded weighting (surveyedGates entryOf survey first spacing (regularRays (length (now entries)) (now azimuths))) (now values) (now qualities) (rays * length (now entries)) (sumsHeld counts «quality_sums» «value_sums») ⌝ }
+        × RaysAdded (surveyedGates entryOf survey first spacing (regularRays (length (now entries)) (now azimuths))) (now values) (now qualities) (rays * length (now entries)) (sumsHeld counts «quality_sums» «value_sums» «weighted_sums») ⌝ }
     ensures { λ _.
-        let sums = lentSums counts «quality_sums» «value_sums» in
+        let sums = lentSums counts «quality_sums» «value_sums» «weighted_sums» in
         let gates = length (now (entries .entry)) in
-        ⌜ sums .entry ≡ addedFirst weighting (surveyedGates entryOf survey first spacing (regularRays gates (now (azimuths .entry)))) (now (values .entry)) (now (qualities .entry)) (rays * gates) (sums .exit) ⌝ }
+        ⌜ sums .entry ≡ addedFirst (surveyedGates entryOf survey first spacing (regularRays gates (now (azimuths .entry)))) (now (values .entry)) (now (qualities .entry)) (rays * gates) (sums .exit) ⌝ }
 {
     let gates = entries.len();
     let mut ray = rays;
@@ -45,7 +44,6 @@ pub fn take_out_rays(
         let end = start + gates;
         take_out_ray(
             survey,
-            weighting,
             azimuths[ray],
             first,
             spacing,
@@ -55,6 +53,7 @@ pub fn take_out_rays(
             counts,
             quality_sums,
             value_sums,
+            weighted_sums,
         );
     }
 }

@@ -1,7 +1,8 @@
-// Site and grid, and what is accepted of a site, a grid, an azimuth and a range: document 01, "The scan".
+// Site, grid and weighting, and what is accepted of a site, a grid, an azimuth and a range: document 01, "The scan".
 mod gate;
 mod grid;
 mod site;
+mod weighting;
 
 pub use gate::azimuth_accepted;
 pub use gate::range_accepted;
@@ -11,3 +12,4 @@ pub use grid::RadolanGrid;
 pub use grid::grid_accepted;
 pub use site::Site;
 pub use site::site_accepted;
+pub use weighting::Weighting;

@@ -1,2 +1,4 @@
+pub mod EqualLengths
 pub mod MeanBetween
 pub mod PublishedRange
+pub mod TalliedCells

@@ -8,11 +8,12 @@ use borrow.Author.Tests.{eq-eqb, ne-eqb}
 use lib.ListN.{length, getD}
 use Rattle.arithmetic.specs.Places.{sumTo}
 use Rattle.arithmetic.proofs.Places.{sum-ext, weighted-least, weighted-most}
-use Rattle.tally.specs.declared.gates.Weighting.{Weighting}
-use Rattle.tally.specs.declared.gates.Weighting.the-variants.{Plain, ByQuality}
-use Rattle.tally.specs.Gates.{echoOf, weighed}
-use Rattle.tally.specs.Tally.{contributes, sumOver, countOf, qualitySumOf, valueSumOf}
-use Rattle.publish.specs.Publish.{meanOf, divisorOf}
+use Rattle.limits.specs.declared.weighting.Weighting.{Weighting}
+use Rattle.limits.specs.declared.weighting.Weighting.the-variants.{Plain, ByQuality}
+use Rattle.tally.specs.Gates.{echoOf, weightedEcho}
+use Rattle.tally.specs.Tally.{contributes, sumOver, countOf, qualitySumOf}
+use Rattle.publish.specs.CellMeans.{weighed, divisorOf, cellValueSum, cellDivisor, cellMean, HasPart}
+use Rattle.publish.specs.Publish.{meanOf}
 
 -- ---- one gate's weight
 
@@ -26,7 +27,7 @@ weightIn : Weighting → Bool → ℕ → ℕ
 weightIn weighting contributing quality = cond contributing (weightOf weighting quality) 0
 
 weighed-is : (weighting : Weighting) (contributing : Bool) (value quality : ℕ) → cond contributing (weighed weighting value quality) 0 ≡ echoOf value * weightIn weighting contributing quality
-unfolding weighed weightOf weightIn
+unfolding weighed weightedEcho weightOf weightIn
 weighed-is Plain true value quality = omega arith
 weighed-is ByQuality true value quality = refl
 weighed-is weighting false value quality = omega arith
@@ -50,19 +51,17 @@ divisor-not-zero valueSum divisor h e = h (rw (eq-eqb divisor 0 e))
 
 -- ---- a cell of a tally
 
-module _ (ledger values qualities : List ℕ) (weighting : Weighting) (cell : ℕ) where
+module _ (weighting : Weighting) (ledger values qualities : List ℕ) (cell : ℕ) where
   -- its divisor and its mean
-  abbrev pub cellDivisor : ℕ
-  cellDivisor = divisorOf weighting (countOf ledger values qualities cell) (qualitySumOf ledger values qualities cell)
+  abbrev divisorHere : ℕ
+  divisorHere = cellDivisor weighting ledger values qualities cell
 
-  abbrev pub cellMean : ℕ
-  cellMean = meanOf (valueSumOf ledger values qualities weighting cell) cellDivisor
+  abbrev meanHere : ℕ
+  meanHere = cellMean weighting ledger values qualities cell
 
-  -- gate k has a part in the mean: it contributes to the cell, and, by quality, its quality is not 0
-  pub record HasPart (k : ℕ) : Type 0 where
-    pub is-gate : k < length ledger
-    pub is-in-cell : contributes ledger values qualities cell k ≡ true
-    pub has-quality : weighting ≡ ByQuality → getD qualities k 0 ≡ 0 → ⊥
+  -- gate k has a part in its mean
+  abbrev PartHere : ℕ → Type 0
+  PartHere k = HasPart weighting ledger values qualities cell k
 
   -- the mean is a weighted one
   weight : ℕ → ℕ
@@ -71,22 +70,23 @@ module _ (ledger values qualities : List ℕ) (weighting : Weighting) (cell : �
   echo : ℕ → ℕ
   echo k = echoOf (getD values k 0)
 
-  divisor-is : cellDivisor ≡ sumTo weight (length ledger)
-  unfolding weight weightOf weightIn divisorOf countOf qualitySumOf sumOver
+  divisor-is : divisorHere ≡ sumTo weight (length ledger)
+  unfolding cellDivisor weight weightOf weightIn divisorOf countOf qualitySumOf sumOver
   divisor-is = go weighting
     where
       go : (w : Weighting) → divisorOf w (countOf ledger values qualities cell) (qualitySumOf ledger values qualities cell) ≡ sumTo (λ k. weightIn w (contributes ledger values qualities cell k) (getD qualities k 0)) (length ledger)
       go Plain = refl
       go ByQuality = refl
 
-  value-sum-is : valueSumOf ledger values qualities weighting cell ≡ sumTo (λ k. echo k * weight k) (length ledger)
-  unfolding valueSumOf sumOver weight echo
+  value-sum-is : cellValueSum weighting ledger values qualities cell ≡ sumTo (λ k. echo k * weight k) (length ledger)
+  unfolding cellValueSum sumOver weight echo
   value-sum-is = sum-ext _ _ (length ledger) (λ k h. weighed-is weighting (contributes ledger values qualities cell k) (getD values k 0) (getD qualities k 0))
 
-  mean-is : (cellDivisor ≡ 0 → ⊥) → cellMean ≡ sumTo (λ k. echo k * weight k) (length ledger) / sumTo weight (length ledger)
+  mean-is : (divisorHere ≡ 0 → ⊥) → meanHere ≡ sumTo (λ k. echo k * weight k) (length ledger) / sumTo weight (length ledger)
+  unfolding cellMean
   mean-is h = mean-is-quotient _ _ h ∙ ap₂ (λ (x y : ℕ). x / y) value-sum-is divisor-is
 
-  has-part : (k : ℕ) → k < length ledger → (weight k ≡ 0 → ⊥) → HasPart k
+  has-part : (k : ℕ) → k < length ledger → (weight k ≡ 0 → ⊥) → PartHere k
   unfolding weight
   has-part k h ne =
       let part = weight-needs-part weighting (contributes ledger values qualities cell k) (getD qualities k 0) ne in
@@ -94,19 +94,20 @@ module _ (ledger values qualities : List ℕ) (weighting : Weighting) (cell : �
 
   -- "A mean that isn't 65,535 lies between the least and greatest contributing values, those with quality 0 left out when weighting by quality":
   -- with a divisor that is not 0, the mean is at least any number that each such value is at least
-  pub mean-least : (least : ℕ) → ((k : ℕ) → HasPart k → least ≤ echoOf (getD values k 0)) → (cellDivisor ≡ 0 → ⊥) → least ≤ cellMean
+  pub mean-least : (least : ℕ) → ((k : ℕ) → PartHere k → least ≤ echoOf (getD values k 0)) → (divisorHere ≡ 0 → ⊥) → least ≤ meanHere
   unfolding echo
   mean-least least bound h =
       rw (mean-is h) (weighted-least least echo weight (length ledger) (λ k i ne. bound k (has-part k i ne)) (λ e. h (divisor-is ∙ e)))
 
   -- and at most any number that each such value is at most
-  pub mean-most : (greatest : ℕ) → ((k : ℕ) → HasPart k → echoOf (getD values k 0) ≤ greatest) → (cellDivisor ≡ 0 → ⊥) → cellMean ≤ greatest
+  pub mean-most : (greatest : ℕ) → ((k : ℕ) → PartHere k → echoOf (getD values k 0) ≤ greatest) → (divisorHere ≡ 0 → ⊥) → meanHere ≤ greatest
   unfolding echo
   mean-most greatest bound h =
       rw (mean-is h) (weighted-most greatest echo weight (length ledger) (λ k i ne. bound k (has-part k i ne)))
 
   -- both, of a mean that is not 65,535
-  pub mean-between : (least greatest : ℕ) → ((k : ℕ) → HasPart k → (least ≤ echoOf (getD values k 0)) × (echoOf (getD values k 0) ≤ greatest)) → (cellMean ≡ 65535 → ⊥) → (least ≤ cellMean) × (cellMean ≤ greatest)
+  pub mean-between : (least greatest : ℕ) → ((k : ℕ) → PartHere k → (least ≤ echoOf (getD values k 0)) × (echoOf (getD values k 0) ≤ greatest)) → (meanHere ≡ 65535 → ⊥) → (least ≤ meanHere) × (meanHere ≤ greatest)
+  unfolding cellMean
   mean-between least greatest bound h =
       let d = divisor-not-zero _ _ h in
       (mean-least least (λ k p. bound k p .0) d, mean-most greatest (λ k p. bound k p .1) d)

@@ -10,12 +10,13 @@ use lib.Dec.{eqb, leb}
 use lib.ListN.{length, getD}
 use Rattle.arithmetic.proofs.Places.{sum-scale}
 use Rattle.arithmetic.proofs.Test.{and-true}
-use Rattle.tally.specs.declared.gates.Weighting.{Weighting}
+use Rattle.limits.specs.declared.weighting.Weighting.{Weighting}
 use Rattle.tally.specs.Gates.{isMeasured}
-use Rattle.tally.specs.Tally.{contributes, sumOver, countOf, qualitySumOf, valueSumOf}
+use Rattle.tally.specs.Tally.{contributes, sumOver, countOf, qualitySumOf}
+use Rattle.publish.specs.CellMeans.{cellValueSum, cellDivisor, cellMean, cellQuality}
 use Rattle.publish.specs.Publish.{meanOf, qualityOf, publishedMean, publishedQuality}
 use Rattle.tally.proofs.TallyWidth.{echo-most}
-use Rattle.publish.proofs.MeanBetween.{cellDivisor, cellMean, mean-most}
+use Rattle.publish.proofs.MeanBetween.{mean-most}
 
 -- ---- one gate
 
@@ -49,21 +50,22 @@ module _ (ledger values qualities : List ℕ) (cell : ℕ) where
   is-measured k e = and-true (eqb (getD ledger k 0) cell) (isMeasured (getD values k 0)) e .1
 
   -- "With a zero divisor it is 65,535": with any other, values of 16 bits give a mean of at most 65,533
-  pub mean-in-range : (weighting : Weighting) → ((k : ℕ) → getD values k 0 ≤ 65535) → (cellDivisor ledger values qualities weighting cell ≡ 0 → ⊥) → cellMean ledger values qualities weighting cell ≤ 65533
+  pub mean-in-range : (weighting : Weighting) → ((k : ℕ) → getD values k 0 ≤ 65535) → (cellDivisor weighting ledger values qualities cell ≡ 0 → ⊥) → cellMean weighting ledger values qualities cell ≤ 65533
   mean-in-range weighting small =
-      mean-most ledger values qualities weighting cell 65533 (λ k p. echo-most (getD values k 0) (small k) (is-measured k (p .is-in-cell)))
+      mean-most weighting ledger values qualities cell 65533 (λ k p. echo-most (getD values k 0) (small k) (is-measured k (p .is-in-cell)))
 
   -- so the published mean is "floor(value sum / count), or floor(value sum / quality sum) by quality"
-  pub mean-published : (weighting : Weighting) → ((k : ℕ) → getD values k 0 ≤ 65535) → publishedMean (valueSumOf ledger values qualities weighting cell) (cellDivisor ledger values qualities weighting cell) ≡ cellMean ledger values qualities weighting cell
+  pub mean-published : (weighting : Weighting) → ((k : ℕ) → getD values k 0 ≤ 65535) → publishedMean (cellValueSum weighting ledger values qualities cell) (cellDivisor weighting ledger values qualities cell) ≡ cellMean weighting ledger values qualities cell
+  unfolding cellMean
   mean-published weighting small = mean-unchanged _ _ (mean-in-range weighting small)
 
   -- "Cell quality is floor(quality sum / count), 0 for an empty cell": qualities of at most 100 give one of at most 100
-  pub quality-in-range : ((k : ℕ) → getD qualities k 0 ≤ 100) → qualityOf (qualitySumOf ledger values qualities cell) (countOf ledger values qualities cell) ≤ 100
-  unfolding qualitySumOf countOf sumOver
-  quality-in-range small =
+  pub quality-in-range : (weighting : Weighting) → ((k : ℕ) → getD qualities k 0 ≤ 100) → cellQuality weighting ledger values qualities cell ≤ 100
+  unfolding cellQuality qualitySumOf countOf sumOver
+  quality-in-range weighting small =
       quotient-most _ _ (sum-scale 100 _ _ (length ledger) (λ k h. quality-share (contributes ledger values qualities cell k) (getD qualities k 0) (small k)))
 
   -- so the published quality is that quotient
-  pub quality-published : ((k : ℕ) → getD qualities k 0 ≤ 100) → publishedQuality (qualitySumOf ledger values qualities cell) (countOf ledger values qualities cell) ≡ qualityOf (qualitySumOf ledger values qualities cell) (countOf ledger values qualities cell)
-  unfolding publishedQuality
-  quality-published small = rw (le-leb _ _ (quality-in-range small))
+  pub quality-published : (weighting : Weighting) → ((k : ℕ) → getD qualities k 0 ≤ 100) → publishedQuality (qualitySumOf ledger values qualities cell) (countOf ledger values qualities cell) ≡ cellQuality weighting ledger values qualities cell
+  unfolding publishedQuality cellQuality
+  quality-published weighting small = rw (le-leb _ _ (quality-in-range weighting small))

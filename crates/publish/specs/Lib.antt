@@ -1,2 +1,4 @@
 pub mod Publish
 pub mod PublishRoom
+pub mod Publication
+pub mod CellMeans

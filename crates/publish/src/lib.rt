@@ -1,4 +1,7 @@
-// The published cells, from counts and sums: means and qualities.
-mod publish_cells;
+// The published cells, from any counts and sums: means and qualities.
+mod cells;
+mod lengths;
+mod publish_sums;
 
-pub use publish_cells::publish;
+pub use cells::publish_cells;
+pub use publish_sums::publish;

@@ -13,7 +13,6 @@ use Rattle.arithmetic.proofs.SetsLaws.{sets-whole}
 use Rattle.placement.specs.declared.survey.Survey.{Survey}
 use Rattle.placement.specs.Gate.{entryOf}
 use Rattle.placement.specs.Survey.{RaySpan, surveyedRay}
-use Rattle.tally.specs.declared.gates.Weighting.{Weighting}
 use Rattle.tally.specs.LentSums.{Sums}
 use Rattle.tally.specs.Tally.{addedSums}
 use Rattle.tally.specs.TallyRoom.{Addable, AddsGates}
@@ -52,12 +51,13 @@ module _ {first spacing : ℕ} {entries values qualities : List ℕ} {sums : Sum
     qualities-length = room .qualities-length ∙ sym e;
     quality-sums-length = room .quality-sums-length;
     value-sums-length = room .value-sums-length;
+    weighted-sums-length = room .weighted-sums-length;
   }
 
 -- ---- all or nothing
 
-module _ {weighting : Weighting} {ledger values qualities : List ℕ} {sums : Both Sums Sums} {gates : ℕ} (adds : AddsGates weighting ledger values qualities sums gates) where
-  pub all-of-them : {ray : List ℕ} → ledger ≡ ray → gates ≡ length ledger → AddsAll weighting ray values qualities sums true
+module _ {ledger values qualities : List ℕ} {sums : Both Sums Sums} {gates : ℕ} (adds : AddsGates ledger values qualities sums gates) where
+  pub all-of-them : {ray : List ℕ} → ledger ≡ ray → gates ≡ length ledger → AddsAll ray values qualities sums true
   unfolding addedSums
   all-of-them is e = rw (← is) (record {
     the-answer = sym (eq-eqb gates (length ledger) e) ∙ adds .whether-all;
@@ -65,7 +65,7 @@ module _ {weighting : Weighting} {ledger values qualities : List ℕ} {sums : Bo
   })
 
   -- the first gates, which were added, can be taken out
-  pub first-added : Addable ledger values qualities (sums .entry) → AddedBefore weighting (take gates ledger) (take gates values) (take gates qualities) (sums .exit)
+  pub first-added : Addable ledger values qualities (sums .entry) → AddedBefore (take gates ledger) (take gates values) (take gates qualities) (sums .exit)
   first-added lengths = record {
     before = sums .entry;
     addable = record {
@@ -73,15 +73,16 @@ module _ {weighting : Weighting} {ledger values qualities : List ℕ} {sums : Bo
       qualities-length = length-take-le gates qualities (omega (arith, adds .gates-most, lengths .qualities-length)) ∙ sym (length-take-le gates ledger (adds .gates-most));
       quality-sums-length = lengths .quality-sums-length;
       value-sums-length = lengths .value-sums-length;
+      weighted-sums-length = lengths .weighted-sums-length;
     };
-    added-then = adds .the-sums ∙ added-taken weighting ledger values qualities gates (sums .entry) (adds .gates-most);
+    added-then = adds .the-sums ∙ added-taken ledger values qualities gates (sums .entry) (adds .gates-most);
   }
 
   -- and the sums are then as they came in
-  pub none-of-them : {ray : List ℕ} {left : Sums} → ledger ≡ ray → (gates ≡ length ledger → ⊥) → sums .exit ≡ addedSums weighting (take gates ledger) (take gates values) (take gates qualities) left → AddsAll weighting ray values qualities (record { entry = sums .entry; exit = left }) false
+  pub none-of-them : {ray : List ℕ} {left : Sums} → ledger ≡ ray → (gates ≡ length ledger → ⊥) → sums .exit ≡ addedSums (take gates ledger) (take gates values) (take gates qualities) left → AddsAll ray values qualities (record { entry = sums .entry; exit = left }) false
   none-of-them {left = left} is ne e = rw (← is) (record {
     the-answer = sym (ne-eqb gates (length ledger) ne) ∙ adds .whether-all;
     the-sums =
-        sums-same weighting ledger values qualities gates left (sums .entry)
-        (added-taken weighting ledger values qualities gates left (adds .gates-most) ∙ sym e ∙ adds .the-sums);
+        sums-same ledger values qualities gates left (sums .entry)
+        (added-taken ledger values qualities gates left (adds .gates-most) ∙ sym e ∙ adds .the-sums);
   })

@@ -5,7 +5,6 @@ use mathlib.Core.Path.{_≡_}
 use Prim.Native.Nat.{ℕ, _+_, _*_, _≤_, _<_}
 use denote.Triple.Both.{Both}
 use lib.ListN.{length}
-use Rattle.tally.specs.declared.gates.Weighting.{Weighting}
 use Rattle.tally.specs.LentSums.{Sums}
 use Rattle.tally.specs.Tally.{addedSums}
 use Rattle.tally.specs.Width.{fitWidths}
@@ -17,9 +16,10 @@ pub record RayAddable (first spacing : ℕ) (entries values qualities : List ℕ
   pub qualities-length : length qualities ≡ length entries
   pub quality-sums-length : length (sums .qualitySums) ≡ length (sums .counts)
   pub value-sums-length : length (sums .valueSums) ≡ length (sums .counts)
+  pub weighted-sums-length : length (sums .weightedSums) ≡ length (sums .counts)
   pub ranges : (g : ℕ) → g < length entries → first + g * spacing ≤ 46000000
 
 -- all gates are added just where no count or sum then passes its width; otherwise the sums are as they came in
-pub record AddsAll (weighting : Weighting) (ledger values qualities : List ℕ) (sums : Both Sums Sums) (answer : Bool) : Type 0 where
-  pub the-answer : answer ≡ fitWidths (addedSums weighting ledger values qualities (sums .entry))
-  pub the-sums : sums .exit ≡ cond answer (addedSums weighting ledger values qualities (sums .entry)) (sums .entry)
+pub record AddsAll (ledger values qualities : List ℕ) (sums : Both Sums Sums) (answer : Bool) : Type 0 where
+  pub the-answer : answer ≡ fitWidths (addedSums ledger values qualities (sums .entry))
+  pub the-sums : sums .exit ≡ cond answer (addedSums ledger values qualities (sums .entry)) (sums .entry)

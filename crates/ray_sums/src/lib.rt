@@ -3,7 +3,6 @@
 use placement::Survey;
 use placement::ray_ledger;
 use take_out::take_out_gates;
-use tally::Weighting;
 use tally::add_gates;
 ghost use mathlib.Core.Path.{_≡_};
 ghost use lib.ListN.{length};
@@ -17,7 +16,6 @@ ghost use Rattle.ray_sums.specs.RaySums.{RayAddable, AddsAll};
 // All of the ray's gates, or none where by them a count or sum would pass its width; says which. For our own crates: they have tested the ray.
 pub fn add_ray(
     survey: Survey,
-    weighting: Weighting,
     azimuth: u32,
     first: u32,
     spacing: u32,
@@ -27,9 +25,10 @@ pub fn add_ray(
     counts: &mut [u32],
     quality_sums: &mut [u32],
     value_sums: &mut [u64],
+    weighted_sums: &mut [u64],
 ) -> bool
-    requires { ⌜ Surveyed survey × RayAddable first spacing (now entries) (now values) (now qualities) (sumsHeld counts «quality_sums» «value_sums») ⌝ }
-    ensures { λ r. ⌜ AddsAll weighting (surveyedRay entryOf survey first spacing azimuth (length (now (entries .entry)))) (now (values .entry)) (now (qualities .entry)) (lentSums counts «quality_sums» «value_sums») r ⌝ }
+    requires { ⌜ Surveyed survey × RayAddable first spacing (now entries) (now values) (now qualities) (sumsHeld counts «quality_sums» «value_sums» «weighted_sums») ⌝ }
+    ensures { λ r. ⌜ AddsAll (surveyedRay entryOf survey first spacing azimuth (length (now (entries .entry)))) (now (values .entry)) (now (qualities .entry)) (lentSums counts «quality_sums» «value_sums» «weighted_sums») r ⌝ }
 {
     let gates = entries.len();
     let mut marks = [0u8; 1000];
@@ -44,25 +43,25 @@ pub fn add_ray(
         gates,
     );
     let added = add_gates(
-        weighting,
         entries,
         values,
         qualities,
         counts,
         quality_sums,
         value_sums,
+        weighted_sums,
     );
     if added == gates {
         return true;
     }
     take_out_gates(
-        weighting,
         &entries[..added],
         &values[..added],
         &qualities[..added],
         counts,
         quality_sums,
         value_sums,
+        weighted_sums,
     );
     false
 }
@@ -70,7 +69,6 @@ pub fn add_ray(
 // Leaves the sums onto which the ray's gates were added. For our own crates: they have added them.
 pub fn take_out_ray(
     survey: Survey,
-    weighting: Weighting,
     azimuth: u32,
     first: u32,
     spacing: u32,
@@ -80,12 +78,13 @@ pub fn take_out_ray(
     counts: &mut [u32],
     quality_sums: &mut [u32],
     value_sums: &mut [u64],
+    weighted_sums: &mut [u64],
 )
-    requires { ⌜ Surveyed survey × RayAddable first spacing (now entries) (now values) (now qualities) (sumsHeld counts «quality_sums» «value_sums»)
-        × AddedBefore weighting (surveyedRay entryOf survey first spacing azimuth (length (now entries))) (now values) (now qualities) (sumsHeld counts «quality_sums» «value_sums») ⌝ }
+    requires { ⌜ Surveyed survey × RayAddable first spacing (now entries) (now values) (now qualities) (sumsHeld counts «quality_sums» «value_sums» «weighted_sums»)
+        × AddedBefore (surveyedRay entryOf survey first spacing azimuth (length (now entries))) (now values) (now qualities) (sumsHeld counts «quality_sums» «value_sums» «weighted_sums») ⌝ }
     ensures { λ _.
-        let sums = lentSums counts «quality_sums» «value_sums» in
-        ⌜ sums .entry ≡ addedSums weighting (surveyedRay entryOf survey first spacing azimuth (length (now (entries .entry)))) (now (values .entry)) (now (qualities .entry)) (sums .exit) ⌝ }
+        let sums = lentSums counts «quality_sums» «value_sums» «weighted_sums» in
+        ⌜ sums .entry ≡ addedSums (surveyedRay entryOf survey first spacing azimuth (length (now (entries .entry)))) (now (values .entry)) (now (qualities .entry)) (sums .exit) ⌝ }
 {
     let gates = entries.len();
     let mut marks = [0u8; 1000];
@@ -100,12 +99,12 @@ pub fn take_out_ray(
         gates,
     );
     take_out_gates(
-        weighting,
         entries,
         values,
         qualities,
         counts,
         quality_sums,
         value_sums,
+        weighted_sums,
     );
 }

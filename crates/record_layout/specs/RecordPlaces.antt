@@ -9,8 +9,8 @@ use Rattle.arithmetic.specs.Places.{sumTo}
 use Rattle.limits.specs.declared.grid.Grid.{Grid}
 use Rattle.limits.specs.declared.grid.Grid.the-variants.{Radolan, Hrap}
 use Rattle.limits.specs.declared.site.Site.{Site}
-use Rattle.tally.specs.declared.gates.Weighting.{Weighting}
-use Rattle.tally.specs.declared.gates.Weighting.the-variants.{Plain, ByQuality}
+use Rattle.limits.specs.declared.weighting.Weighting.{Weighting}
+use Rattle.limits.specs.declared.weighting.Weighting.the-variants.{Plain, ByQuality}
 use Rattle.scan.specs.declared.head.ScanHead.{ScanHead}
 use Rattle.scan.specs.Scan.{Scan}
 use Rattle.big_endian.specs.BigEndian.{numberAt, numbersAt, signedAt}

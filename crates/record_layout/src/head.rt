@@ -10,8 +10,8 @@ use limits::Grid;
 use limits::HrapGrid;
 use limits::RadolanGrid;
 use limits::Site;
+use limits::Weighting;
 use scan::ScanHead;
-use tally::Weighting;
 ghost use mathlib.Core.Path.{_≡_};
 ghost use Rattle.record_layout.specs.RecordPlaces.{weightingOf, siteIn, gridIn, headIn};
 

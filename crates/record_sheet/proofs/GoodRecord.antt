@@ -1,10 +1,11 @@
--- A good record within the two sizes: what is read, what is remapped, and that its sheet is printed. Assumes nothing.
+-- A good record within the two sizes: what is read, what is tallied and published, and that its sheet is printed. Assumes nothing.
 use mathlib.Core.Path.{_≡_, ap, _∙_}
 use mathlib.Core.Bool.{true}
 use mathlib.Core.List.{List}
 use Prim.Native.Nat.{ℕ, _≤_}
 use native.Mathlib.Omega.{arith}
 use borrow.Author.Tests.{eq-eqb}
+use denote.Triple.Both.{Both}
 use lib.ListN.{length, getD}
 use Rattle.arithmetic.specs.Places.{sumTo, allOf}
 use Rattle.arithmetic.proofs.Places.{table-length}
@@ -15,14 +16,19 @@ use Rattle.scan.specs.declared.head.ScanHead.{ScanHead}
 use Rattle.scan.specs.Scan.{gatesOf, cellsOf, Scan}
 use Rattle.scan.specs.ScanRefusal.{listsAccepted, qualityAccepted, lengthsOf, listsExact, refusalFor}
 use Rattle.scan.specs.LentLists.{Lists}
-use Rattle.accepted_remap.specs.FilledLists.{filledLists}
-use Rattle.remap.specs.Remap.{Remaps}
+use Rattle.accepted_tally.specs.TalliedLists.{talliedLists}
+use Rattle.scan_tally.specs.ScanTally.{Tallies}
+use Rattle.publish.specs.CellMeans.{cellsFrom}
+use Rattle.publish.specs.Publication.{Publishes}
+use Rattle.refusal.specs.declared.outcome.Outcome.{Outcome}
 use Rattle.refusal.proofs.AnswerLaws.{filled-is}
-use Rattle.remap.specs.declared.Remapped.{Remapped}
+use Rattle.tally.specs.LentSums.{Sums, Cells}
 use Rattle.tally.specs.Tally.{talliedSums}
 use Rattle.scan_laws.specs.Placed.{placedOf}
+use Rattle.scan_laws.specs.TallyPublished.{scanCells}
 use Rattle.scan_laws.proofs.PlacedTotal.{placed-total}
-use Rattle.scan.proofs.AcceptedScan.{AcceptedLists, AcceptedLengths, accepted-lengths, exact-for-another, AcceptedNumbers, window-size}
+use Rattle.scan_laws.proofs.TallyPublished.{published-scan}
+use Rattle.scan.proofs.AcceptedScan.{AcceptedLists, AcceptedLengths, accepted-lengths, accepted-scan, exact-for-another, AcceptedNumbers, window-size}
 use Rattle.record_reader.specs.declared.reader.ReadScan.{ReadScan}
 use Rattle.big_endian.specs.BigEndian.{numbersAt}
 use Rattle.record_layout.specs.RecordPlaces.{raysIn, gatesIn, headIn, azimuthsIn, valuesIn, qualitiesIn, scanIn}
@@ -32,7 +38,7 @@ use Rattle.record_reader.specs.RecordRead.{listsIn, Reads}
 use Rattle.record_layout.proofs.AcceptedRecord.{accepted-record, record-numbers}
 use Rattle.sheet_lines.specs.SheetLines.{sheetLines}
 use Rattle.record_sheet.specs.GoodSheet.{goodSheet}
-use Rattle.record_sheet.specs.SheetRoom.{Sized}
+use Rattle.record_sheet.specs.SheetRoom.{Sized, CellRoom}
 
 -- ---- its numbers
 
@@ -96,31 +102,41 @@ module _ {bytes : List ℕ} (scan : Scan) (lists : Lists) (s : Sized bytes (scan
   unfolding scanIn refusalFor headRefusal
   not-refused = rw (exact-for-another scan (scanIn bytes) lists (s .is-head) own-lists exact) (accepted-record bytes true (s .accepted) .number)
 
-  pub remapped : {given : Scan} {after : Lists} {answer : Remapped} → given ≡ scanIn bytes → Remaps given (record { entry = lists; exit = after }) answer → after ≡ filledLists (scanIn bytes)
-  remapped e r = filled-is lists not-refused (rw e at (r .the-lists))
+  pub tallied : {given : Scan} {after : Lists} {answer : Outcome} → given ≡ scanIn bytes → Tallies given (record { entry = lists; exit = after }) answer → after ≡ talliedLists (scanIn bytes)
+  tallied e r = filled-is lists not-refused (rw e at (r .the-lists))
+
+  -- published in the weighting that the record asks for
+  pub published : {given : Scan} {sums : Sums} {cells : Both Cells Cells} {answer : Outcome} → given ≡ scanIn bytes → ((k : ℕ) → getD (given .values) k 0 ≤ 65535) → sums ≡ talliedLists (scanIn bytes) .sums → CellRoom (scan .head) (cells .entry) → Publishes (scan .head .weighting) sums cells answer → cells .exit ≡ scanCells (headIn bytes .weighting) (scanIn bytes)
+  unfolding scanIn
+  published {cells = cells} {answer = answer} e small is room p =
+      let good = accepted-scan (scanIn bytes) lists not-refused in
+      let known = rw (is, s .is-head) at p in
+      published-scan (scanIn bytes) good (rw e at small) (headIn bytes .weighting) cells answer (room .means-length ∙ ap cellsOf (s .is-head)) (room .cell-qualities-length ∙ ap cellsOf (s .is-head)) known .the-cells
 
 -- each list has the grid's cells
-module _ (bytes : List ℕ) {lists : Lists} (e : lists ≡ filledLists (scanIn bytes)) where
-  pub counts-length : length (lists .sums .counts) ≡ cellsOf (headIn bytes)
-  unfolding scanIn filledLists talliedSums
-  counts-length = ap (λ (l : Lists). length (l .sums .counts)) e ∙ table-length _ _
+module _ (bytes : List ℕ) where
+  pub counts-length : {sums : Sums} → sums ≡ talliedLists (scanIn bytes) .sums → length (sums .counts) ≡ cellsOf (headIn bytes)
+  unfolding scanIn talliedLists talliedSums
+  counts-length e = ap (λ (s : Sums). length (s .counts)) e ∙ table-length _ _
 
-  pub means-length : length (lists .cells .means) ≡ cellsOf (headIn bytes)
-  unfolding scanIn filledLists
-  means-length = ap (λ (l : Lists). length (l .cells .means)) e ∙ table-length _ _
+  module _ {cells : Cells} (e : cells ≡ scanCells (headIn bytes .weighting) (scanIn bytes)) where
+    pub means-length : length (cells .means) ≡ cellsOf (headIn bytes)
+    unfolding scanIn scanCells cellsFrom
+    means-length = ap (λ (c : Cells). length (c .means)) e ∙ table-length _ _
 
-  pub cell-qualities-length : length (lists .cells .qualities) ≡ cellsOf (headIn bytes)
-  unfolding scanIn filledLists
-  cell-qualities-length = ap (λ (l : Lists). length (l .cells .qualities)) e ∙ table-length _ _
+    pub cell-qualities-length : length (cells .qualities) ≡ cellsOf (headIn bytes)
+    unfolding scanIn scanCells cellsFrom
+    cell-qualities-length = ap (λ (c : Cells). length (c .qualities)) e ∙ table-length _ _
 
 -- ---- what is printed
 
-abbrev linesOf : ScanHead → ℕ → Lists → List ℕ
-linesOf head placed lists = sheetLines (windowOf (head .grid) .columns) (windowOf (head .grid) .rows) (gatesOf head) placed (lists .sums .counts) (lists .cells .means) (lists .cells .qualities)
+abbrev linesOf : ScanHead → ℕ → List ℕ → Cells → List ℕ
+linesOf head placed counts cells = sheetLines (windowOf (head .grid) .columns) (windowOf (head .grid) .rows) (gatesOf head) placed counts (cells .means) (cells .qualities)
 
-pub is-sheet : {bytes : List ℕ} {head : ScanHead} {lists : Lists} → Sized bytes head → lists ≡ filledLists (scanIn bytes) → linesOf head (sumTo (λ k. getD (lists .sums .counts) k 0) (length (lists .sums .counts))) lists ≡ goodSheet bytes
+pub is-sheet : {bytes : List ℕ} {head : ScanHead} {sums : Sums} {cells : Cells} → Sized bytes head → sums ≡ talliedLists (scanIn bytes) .sums → cells ≡ scanCells (headIn bytes .weighting) (scanIn bytes) → linesOf head (sumTo (λ k. getD (sums .counts) k 0) (length (sums .counts))) (sums .counts) cells ≡ goodSheet bytes
 unfolding goodSheet scanIn
-is-sheet {bytes} {head} {lists} s e =
-    ap (λ (l : Lists). linesOf head (sumTo (λ k. getD (l .sums .counts) k 0) (length (l .sums .counts))) l) e
-    ∙ ap (λ (placed : ℕ). linesOf head placed (filledLists (scanIn bytes))) (placed-total (scanIn bytes) (azimuths-length bytes) (omega (arith, s .cells-most, ap cellsOf (s .is-head))))
-    ∙ ap (λ (h : ScanHead). linesOf h (placedOf (scanIn bytes)) (filledLists (scanIn bytes))) (s .is-head)
+is-sheet {bytes} {head} {sums} {cells} s e f =
+    ap (λ (l : Sums). linesOf head (sumTo (λ k. getD (l .counts) k 0) (length (l .counts))) (l .counts) cells) e
+    ∙ ap (linesOf head _ _) f
+    ∙ ap (λ (placed : ℕ). linesOf head placed (talliedLists (scanIn bytes) .sums .counts) (scanCells (headIn bytes .weighting) (scanIn bytes))) (placed-total (scanIn bytes) (azimuths-length bytes) (omega (arith, s .cells-most, ap cellsOf (s .is-head))))
+    ∙ ap (λ (h : ScanHead). linesOf h (placedOf (scanIn bytes)) (talliedLists (scanIn bytes) .sums .counts) (scanCells (headIn bytes .weighting) (scanIn bytes))) (s .is-head)

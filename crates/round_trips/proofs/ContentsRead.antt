@@ -20,8 +20,8 @@ use Rattle.refusal.specs.Checks.{inRange}
 use Rattle.limits.specs.Accepted.{siteAccepted, gridAccepted}
 use Rattle.refusal.proofs.RangeBounds.{range-bounds}
 use Rattle.limits.proofs.Accepted.{accepted-site, accepted-radolan, accepted-hrap}
-use Rattle.tally.specs.declared.gates.Weighting.{Weighting}
-use Rattle.tally.specs.declared.gates.Weighting.the-variants.{Plain, ByQuality}
+use Rattle.limits.specs.declared.weighting.Weighting.{Weighting}
+use Rattle.limits.specs.declared.weighting.Weighting.the-variants.{Plain, ByQuality}
 use Rattle.scan.specs.declared.head.ScanHead.{ScanHead}
 use Rattle.scan.specs.ScanRefusal.{centresAccepted}
 use Rattle.big_endian.specs.BigEndian.{bytesOf, signedBytesOf, numberAt}

@@ -39,8 +39,7 @@ lengthsAccepted head given =
     && eqb (given .counts) (cellsOf head)
     && eqb (given .«quality_sums») (cellsOf head)
     && eqb (given .«value_sums») (cellsOf head)
-    && eqb (given .means) (cellsOf head)
-    && eqb (given .«cell_qualities») (cellsOf head)
+    && eqb (given .«weighted_sums») (cellsOf head)
 
 abbrev pub lengthsOf : Scan → Lists → Lengths
 lengthsOf scan lists = record {
@@ -52,8 +51,7 @@ lengthsOf scan lists = record {
   counts = length (lists .sums .counts);
   «quality_sums» = length (lists .sums .qualitySums);
   «value_sums» = length (lists .sums .valueSums);
-  means = length (lists .cells .means);
-  «cell_qualities» = length (lists .cells .qualities);
+  «weighted_sums» = length (lists .sums .weightedSums);
 }
 
 unfoldable pub listsExact : Scan → Lists → Bool

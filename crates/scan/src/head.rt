@@ -1,7 +1,7 @@
 // What a scan is besides its lists, and how many gates and cells that makes.
 use limits::Grid;
 use limits::Site;
-use tally::Weighting;
+use limits::Weighting;
 ghost use mathlib.Core.Path.{_≡_};
 ghost use Prim.Native.Nat.{_*_};
 ghost use Rattle.scan.specs.Scan.{gatesOf, cellsOf};

@@ -15,8 +15,7 @@ pub struct Lengths {
     pub counts: usize,
     pub quality_sums: usize,
     pub value_sums: usize,
-    pub means: usize,
-    pub cell_qualities: usize,
+    pub weighted_sums: usize,
 }
 
 // The exact lengths of azimuths, values and qualities.
@@ -57,8 +56,5 @@ pub fn lengths_accepted(head: ScanHead, given: Lengths) -> bool
     if given.value_sums != cells {
         return false;
     }
-    if given.means != cells {
-        return false;
-    }
-    given.cell_qualities == cells
+    given.weighted_sums == cells
 }

@@ -31,7 +31,7 @@ use Rattle.scan.proofs.AcceptedScan.{cells-most}
 use Rattle.scan.proofs.RayLaws.{gate-at}
 use Rattle.scan_ledger.specs.ScanLedger.{gatesTold}
 use Rattle.scan_ledger.proofs.AcceptedLedger.{centres-most, gate-accepted}
-use Rattle.accepted_remap.specs.FilledLists.{filledLists}
+use Rattle.accepted_tally.specs.TalliedLists.{talliedLists}
 use Rattle.scan_laws.specs.ExactCount.{besideOf, ledger*, gatesBeside, isMarked, isBeside, gatesThat, exactCount, unmarkedCount, markedBeside, ExactByMarks}
 use Rattle.scan_laws.proofs.ExactGate.{unmarked-exact, exactly-beside}
 use Rattle.scan_laws.proofs.LedgerEntry.{so-many-gates, ledger-entry, gate-mark}
@@ -119,7 +119,7 @@ module _ (scan : Scan) (rays : length (scan .azimuths) ≡ scan .head .rays) (ga
     side-least : 10000 ≤ windowOf (scan .head .grid) .side
     side-least = window-limits (scan .head .grid) grid .side-least
 
-    unmarked-at : eqb (getD (filledLists scan .marks) place 0) 1 ≡ false → getD (filledLists scan .ledger) place 0 ≡ getD (ledger* scan) place 0
+    unmarked-at : eqb (getD (talliedLists scan .marks) place 0) 1 ≡ false → getD (talliedLists scan .ledger) place 0 ≡ getD (ledger* scan) place 0
     unfolding cellOf*
     unmarked-at =
         rw (ledger-entry scan i g i-azimuth g-below, gate-mark scan i g i-azimuth g-below, exact-entry, placed)
@@ -139,9 +139,9 @@ module _ (scan : Scan) (rays : length (scan .azimuths) ≡ scan .head .rays) (ga
       subst P (div-add-mod' k n) (each (k / n) (k % n) (div-lt-iff-lt-mul {k = n} gates .1 h) (mod-lt k gates))
 
   -- by a ledger and marks that hold what was written for these gates
-  module _ (ledger marks : List ℕ) (ledger-is : (k : ℕ) → k < gatesOf (scan .head) → getD ledger k 0 ≡ getD (filledLists scan .ledger) k 0) (marks-are : (k : ℕ) → k < gatesOf (scan .head) → getD marks k 0 ≡ getD (filledLists scan .marks) k 0) where
+  module _ (ledger marks : List ℕ) (ledger-is : (k : ℕ) → k < gatesOf (scan .head) → getD ledger k 0 ≡ getD (talliedLists scan .ledger) k 0) (marks-are : (k : ℕ) → k < gatesOf (scan .head) → getD marks k 0 ≡ getD (talliedLists scan .marks) k 0) where
     unmarked-gate : (k : ℕ) → k < gatesOf (scan .head) → eqb (getD marks k 0) 1 ≡ false → getD ledger k 0 ≡ getD (ledger* scan) k 0
-    unmarked-gate k h = rw (ledger-is k h, marks-are k h) (every-gate (λ n. eqb (getD (filledLists scan .marks) n 0) 1 ≡ false → getD (filledLists scan .ledger) n 0 ≡ getD (ledger* scan) n 0) unmarked-at k h)
+    unmarked-gate k h = rw (ledger-is k h, marks-are k h) (every-gate (λ n. eqb (getD (talliedLists scan .marks) n 0) 1 ≡ false → getD (talliedLists scan .ledger) n 0 ≡ getD (ledger* scan) n 0) unmarked-at k h)
 
     exact-length : length (ledger* scan) ≡ gatesOf (scan .head)
     unfolding ledger* gatesOf

@@ -5,7 +5,7 @@ use Prim.Native.Nat.{ℕ, _+_, _*_, _<_}
 use lib.ListN.{length, getD}
 use Rattle.placement.specs.Gate.{placementOf, entryOf, markOf}
 use Rattle.scan_ledger.specs.ScanLedger.{gatesTold}
-use Rattle.accepted_remap.specs.FilledLists.{filledLists}
+use Rattle.accepted_tally.specs.TalliedLists.{talliedLists}
 use Rattle.scan.specs.Rays.{Ray, allGates, regularRays}
 use Rattle.scan.specs.Scan.{Scan, raysOf}
 use Rattle.scan.proofs.RayLaws.{gate-at, gates-length, regular-gates}
@@ -17,10 +17,10 @@ so-many-gates scan given rays =
     gates-length given _ _ (regularRays (scan .head .gates) (scan .azimuths)) ∙ regular-gates (scan .head .gates) (scan .azimuths) ∙ ap (λ (n : ℕ). n * scan .head .gates) rays
 
 -- gate g of ray i
-pub ledger-entry : (scan : Scan) (i g : ℕ) → i < length (scan .azimuths) → g < scan .head .gates → getD (filledLists scan .ledger) (i * scan .head .gates + g) 0 ≡ entryOf (placementOf (scan .head .site) (scan .head .grid) (getD (scan .azimuths) i 0) (scan .head .first + g * scan .head .spacing))
-unfolding filledLists gatesTold raysOf
+pub ledger-entry : (scan : Scan) (i g : ℕ) → i < length (scan .azimuths) → g < scan .head .gates → getD (talliedLists scan .ledger) (i * scan .head .gates + g) 0 ≡ entryOf (placementOf (scan .head .site) (scan .head .grid) (getD (scan .azimuths) i 0) (scan .head .first + g * scan .head .spacing))
+unfolding talliedLists gatesTold raysOf
 ledger-entry scan i g h k = gate-at _ _ _ (scan .head .gates) (scan .azimuths) i g h k
 
-pub gate-mark : (scan : Scan) (i g : ℕ) → i < length (scan .azimuths) → g < scan .head .gates → getD (filledLists scan .marks) (i * scan .head .gates + g) 0 ≡ markOf (placementOf (scan .head .site) (scan .head .grid) (getD (scan .azimuths) i 0) (scan .head .first + g * scan .head .spacing))
-unfolding filledLists gatesTold raysOf
+pub gate-mark : (scan : Scan) (i g : ℕ) → i < length (scan .azimuths) → g < scan .head .gates → getD (talliedLists scan .marks) (i * scan .head .gates + g) 0 ≡ markOf (placementOf (scan .head .site) (scan .head .grid) (getD (scan .azimuths) i 0) (scan .head .first + g * scan .head .spacing))
+unfolding talliedLists gatesTold raysOf
 gate-mark scan i g h k = gate-at _ _ _ (scan .head .gates) (scan .azimuths) i g h k

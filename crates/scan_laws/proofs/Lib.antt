@@ -2,5 +2,5 @@ pub mod LedgerEntry
 pub mod PlacedTotal
 pub mod ExactGate
 pub mod ExactCount
-pub mod WholeScan
+pub mod TallyPublished
 pub mod StarredCases

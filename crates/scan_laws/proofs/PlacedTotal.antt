@@ -22,7 +22,7 @@ use Rattle.grid.proofs.Cells.{in-span-natural}
 use Rattle.tally.specs.Gates.{isMeasured}
 use Rattle.scan_laws.specs.Placed.{isInside, gatePlacement, gateValue, isPlaced, placedOf}
 use Rattle.scan_ledger.specs.ScanLedger.{gatesTold}
-use Rattle.accepted_remap.specs.FilledLists.{filledLists}
+use Rattle.accepted_tally.specs.TalliedLists.{talliedLists}
 use Rattle.scan.specs.Scan.{cellsOf, Scan}
 use Rattle.tally.specs.Tally.{countOf, talliedSums}
 use Rattle.tally.proofs.CountTotal.{count-total}
@@ -60,13 +60,13 @@ gate-told scan i g h = unless-refused (windowOf (scan .head .grid)) _ h _
 -- ---- the sum
 
 module _ (scan : Scan) (azimuths : length (scan .azimuths) ≡ scan .head .rays) (cells : cellsOf (scan .head) ≤ 4294967295) where
-  ledger-length : length (filledLists scan .ledger) ≡ scan .head .rays * scan .head .gates
-  unfolding filledLists gatesTold
+  ledger-length : length (talliedLists scan .ledger) ≡ scan .head .rays * scan .head .gates
+  unfolding talliedLists gatesTold
   ledger-length = so-many-gates scan _ azimuths
 
   -- 1 where gate k is counted by some cell
   counted : ℕ → ℕ
-  counted k = cond (ltb (getD (filledLists scan .ledger) k 0) (cellsOf (scan .head)) && isMeasured (getD (scan .values) k 0)) 1 0
+  counted k = cond (ltb (getD (talliedLists scan .ledger) k 0) (cellsOf (scan .head)) && isMeasured (getD (scan .values) k 0)) 1 0
 
   -- which is just where it is placed
   gate-counted : (i g : ℕ) → i < scan .head .rays → g < scan .head .gates → counted (i * scan .head .gates + g) ≡ cond (isPlaced scan i g) 1 0
@@ -75,10 +75,10 @@ module _ (scan : Scan) (azimuths : length (scan .azimuths) ≡ scan .head .rays)
       ap (λ (entry : ℕ). cond {A = ℕ} (ltb entry (cellsOf (scan .head)) && isMeasured (gateValue scan i g)) 1 0) (ledger-entry scan i g (omega arith) k)
       ∙ ap (λ (inside : Bool). cond {A = ℕ} (inside && isMeasured (gateValue scan i g)) 1 0) (gate-told scan i g cells)
 
-  pub placed-total : sumTo (λ c. getD (filledLists scan .sums .counts) c 0) (length (filledLists scan .sums .counts)) ≡ placedOf scan
-  unfolding filledLists talliedSums placedOf counted
+  pub placed-total : sumTo (λ c. getD (talliedLists scan .sums .counts) c 0) (length (talliedLists scan .sums .counts)) ≡ placedOf scan
+  unfolding talliedLists talliedSums placedOf counted
   placed-total =
-      let ledger = filledLists scan .ledger in
+      let ledger = talliedLists scan .ledger in
       sum-of-table (countOf ledger (scan .values) (scan .qualities)) (cellsOf (scan .head))
       ∙ count-total ledger (scan .values) (scan .qualities) (cellsOf (scan .head))
       ∙ ap (sumTo counted) ledger-length

@@ -1,3 +1,4 @@
 pub mod Placed
 pub mod ExactCount
+pub mod TallyPublished
 pub mod StarredCases

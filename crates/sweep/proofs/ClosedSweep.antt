@@ -48,10 +48,11 @@ accepted-close head closed taken sums cells e =
 
 pub publishable : {head : ScanHead} {closed : Bool} {taken : ℕ} {sums : Sums} {cells : Cells} → AcceptedClose head closed taken sums cells → Publishable sums cells
 publishable known =
-    let m = sym (known .means-length) in
+    let n = sym (known .accepted .counts-length) in
     record {
-      counts-length = known .accepted .counts-length ∙ m;
-      quality-sums-length = known .accepted .quality-sums-length ∙ m;
-      value-sums-length = known .accepted .value-sums-length ∙ m;
-      cell-qualities-length = known .cell-qualities-length ∙ m;
+      quality-sums-length = known .accepted .quality-sums-length ∙ n;
+      value-sums-length = known .accepted .value-sums-length ∙ n;
+      weighted-sums-length = known .accepted .weighted-sums-length ∙ n;
+      means-length = known .means-length ∙ n;
+      cell-qualities-length = known .cell-qualities-length ∙ n;
     }

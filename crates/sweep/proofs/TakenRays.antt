@@ -6,10 +6,11 @@ use Rattle.refusal.specs.Checks.{firstRefusal}
 use Rattle.refusal.proofs.Then.{then-kept, then-next}
 use Rattle.scan.specs.declared.head.ScanHead.{ScanHead}
 use Rattle.tally.specs.Width.{fitWidths}
-use Rattle.accepted_take.specs.RayGroup.{RayGroup, RayLists}
+use Rattle.scan.specs.LentLists.{Lists}
+use Rattle.accepted_take.specs.RayGroup.{RayGroup}
 use Rattle.accepted_take.specs.TakenLists.{takenLists, takeChecks, takeRefusal}
 
-module _ (head : ScanHead) (closed : Bool) (taken : ℕ) (group : RayGroup) (lists : RayLists) where
+module _ (head : ScanHead) (closed : Bool) (taken : ℕ) (group : RayGroup) (lists : Lists) where
   pub by-checks : {number : ℕ} → number ≡ takeChecks head closed taken group lists → (number ≡ 0 → ⊥) → number ≡ takeRefusal head closed taken group lists
   unfolding takeRefusal
   by-checks e wrong = then-kept _ e wrong

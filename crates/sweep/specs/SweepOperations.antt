@@ -9,10 +9,10 @@ use Rattle.tally.specs.LentSums.{Sums, Cells}
 use Rattle.tally.specs.Tally.{cleared}
 use Rattle.publish.specs.Publish.{publishedCells}
 use Rattle.scan.specs.declared.head.ScanHead.{ScanHead}
-use Rattle.scan.specs.Scan.{cellsOf}
+use Rattle.scan.specs.LentLists.{Lists}
 use Rattle.sweep_checks.specs.declared.lengths.CellLengths.{CellLengths}
 use Rattle.sweep_checks.specs.SweepNumbers.{openNumber, closeNumber}
-use Rattle.accepted_take.specs.RayGroup.{RayGroup, RayLists}
+use Rattle.accepted_take.specs.RayGroup.{RayGroup}
 use Rattle.accepted_take.specs.TakenLists.{sumLengths, takenLists, takeRefusal}
 use Rattle.sweep.specs.declared.Sweep.{Sweep}
 use Rattle.sweep.specs.declared.Swept.{Swept}
@@ -37,17 +37,17 @@ pub record Opens (head : ScanHead) (sums : Both Sums Sums) (answer : Swept) : Ty
 
 -- ---- taking rays: the state counts them
 
-unfoldable pub raysRefusal : Sweep → RayGroup → RayLists → ℕ
+unfoldable pub raysRefusal : Sweep → RayGroup → Lists → ℕ
 raysRefusal sweep group lists = takeRefusal (sweep .head) (sweep .closed) (sweep .taken) group lists
 
 unfoldable pub counted : Sweep → RayGroup → Sweep
 counted sweep group = record { head = sweep .head; taken = sweep .taken + length (group .azimuths); closed = sweep .closed }
 
-pub record Takes (sweep : Sweep) (group : RayGroup) (lists : Both RayLists RayLists) (answer : Swept) : Type 0 where
+pub record Takes (sweep : Sweep) (group : RayGroup) (lists : Both Lists Lists) (answer : Swept) : Type 0 where
   pub the-answer : sweptAnswer answer ≡ answered (raysRefusal sweep group (lists .entry)) (counted sweep group)
   pub the-lists : lists .exit ≡ afterwards (raysRefusal sweep group (lists .entry)) (lists .entry) (takenLists (sweep .head) (sweep .taken) group (lists .entry))
 
--- ---- closing: "Closing publishes and ends the scan"
+-- ---- closing: "Closing publishes and ends the scan", in the weighting with which it was opened
 
 abbrev pub cellLengths : Cells → CellLengths
 cellLengths cells = record { means = length (cells .means); «cell_qualities» = length (cells .qualities) }
@@ -60,4 +60,4 @@ ended sweep = record { head = sweep .head; taken = sweep .taken; closed = true }
 
 pub record Closes (sweep : Sweep) (sums : Sums) (cells : Both Cells Cells) (answer : Swept) : Type 0 where
   pub the-answer : sweptAnswer answer ≡ answered (closeRefusal sweep sums (cells .entry)) (ended sweep)
-  pub the-cells : cells .exit ≡ afterwards (closeRefusal sweep sums (cells .entry)) (cells .entry) (publishedCells (sweep .head .weighting) sums (cellsOf (sweep .head)))
+  pub the-cells : cells .exit ≡ afterwards (closeRefusal sweep sums (cells .entry)) (cells .entry) (publishedCells (sweep .head .weighting) sums)

@@ -1,6 +1,6 @@
 // A sweep: a scan whose rays are fed while the antenna turns.
 use accepted_take::accepted_take;
-use publish::publish;
+use publish::publish_cells;
 use scan::ScanHead;
 use scan::azimuths_accepted;
 use scan::qualities_accepted;
@@ -12,7 +12,8 @@ use sweep_checks::open_refusal;
 use sweep_checks::take_refusal;
 use tally::clear_sums;
 ghost use Rattle.tally.specs.LentSums.{sumsHeld, lentSums, lentCells};
-ghost use Rattle.accepted_take.specs.RayGroup.{groupHeld, lentRayLists};
+ghost use Rattle.scan.specs.LentLists.{lentLists};
+ghost use Rattle.accepted_take.specs.RayGroup.{groupHeld};
 ghost use Rattle.sweep.specs.SweepOperations.{Opens, Takes, Closes};
 
 // The state: the scan's head, how many of its rays were taken, and whether it is closed. Plain data, which its owner may keep, copy or alter.
@@ -35,8 +36,9 @@ impl Sweep {
         counts: &mut [u32],
         quality_sums: &mut [u32],
         value_sums: &mut [u64],
+        weighted_sums: &mut [u64],
     ) -> Swept
-        ensures { λ r. ⌜ Opens head (lentSums counts «quality_sums» «value_sums») r ⌝ }
+        ensures { λ r. ⌜ Opens head (lentSums counts «quality_sums» «value_sums» «weighted_sums») r ⌝ }
     {
         let number = open_refusal(
             head,
@@ -44,12 +46,13 @@ impl Sweep {
                 counts: counts.len(),
                 quality_sums: quality_sums.len(),
                 value_sums: value_sums.len(),
+                weighted_sums: weighted_sums.len(),
             },
         );
         if number != 0 {
             return Swept::Refused(number);
         }
-        clear_sums(counts, quality_sums, value_sums);
+        clear_sums(counts, quality_sums, value_sums, weighted_sums);
         Swept::State(Sweep {
             head,
             taken: 0,
@@ -68,8 +71,9 @@ impl Sweep {
         counts: &mut [u32],
         quality_sums: &mut [u32],
         value_sums: &mut [u64],
+        weighted_sums: &mut [u64],
     ) -> Swept
-        ensures { λ r. ⌜ Takes self (groupHeld (azimuths .entry) (values .entry) (qualities .entry)) (lentRayLists ledger marks counts «quality_sums» «value_sums») r ⌝ }
+        ensures { λ r. ⌜ Takes self (groupHeld (azimuths .entry) (values .entry) (qualities .entry)) (lentLists ledger marks counts «quality_sums» «value_sums» «weighted_sums») r ⌝ }
     {
         let head = self.head;
         let number = take_refusal(
@@ -87,6 +91,7 @@ impl Sweep {
                 counts: counts.len(),
                 quality_sums: quality_sums.len(),
                 value_sums: value_sums.len(),
+                weighted_sums: weighted_sums.len(),
             },
             azimuths_accepted(azimuths),
             qualities_accepted(qualities),
@@ -105,6 +110,7 @@ impl Sweep {
             counts,
             quality_sums,
             value_sums,
+            weighted_sums,
         ) {
             return Swept::Refused(31);
         }
@@ -115,16 +121,17 @@ impl Sweep {
         })
     }
 
-    // Publishes the cells, from whatever the sums hold, and ends the scan.
+    // Publishes the cells, from whatever the sums hold, in the weighting with which the scan was opened, and ends the scan.
     pub fn close(
         self,
         counts: &[u32],
         quality_sums: &[u32],
         value_sums: &[u64],
+        weighted_sums: &[u64],
         means: &mut [u16],
         cell_qualities: &mut [u8],
     ) -> Swept
-        ensures { λ r. ⌜ Closes self (sumsHeld (counts .entry) («quality_sums» .entry) («value_sums» .entry)) (lentCells means «cell_qualities») r ⌝ }
+        ensures { λ r. ⌜ Closes self (sumsHeld (counts .entry) («quality_sums» .entry) («value_sums» .entry) («weighted_sums» .entry)) (lentCells means «cell_qualities») r ⌝ }
     {
         let head = self.head;
         let weighting = head.weighting;
@@ -136,6 +143,7 @@ impl Sweep {
                 counts: counts.len(),
                 quality_sums: quality_sums.len(),
                 value_sums: value_sums.len(),
+                weighted_sums: weighted_sums.len(),
             },
             CellLengths {
                 means: means.len(),
@@ -145,11 +153,12 @@ impl Sweep {
         if number != 0 {
             return Swept::Refused(number);
         }
-        publish(
+        publish_cells(
             weighting,
             counts,
             quality_sums,
             value_sums,
+            weighted_sums,
             means,
             cell_qualities,
         );

@@ -12,7 +12,8 @@ use Rattle.sweep_checks.specs.declared.lengths.CellLengths.{CellLengths}
 unfoldable pub sumsAccepted : ScanHead → SumLengths → Bool
 sumsAccepted head given =
     eqb (given .counts) (cellsOf head)
-    && (eqb (given .«quality_sums») (cellsOf head) && eqb (given .«value_sums») (cellsOf head))
+    && (eqb (given .«quality_sums») (cellsOf head)
+    && (eqb (given .«value_sums») (cellsOf head) && eqb (given .«weighted_sums») (cellsOf head)))
 
 -- not a group of no rays; as many gates as its rays have; the whole ledger and all marks, of all rays that were announced
 unfoldable pub groupAccepted : ScanHead → GroupLengths → Bool

@@ -10,6 +10,7 @@ pub struct SumLengths {
     pub counts: usize,
     pub quality_sums: usize,
     pub value_sums: usize,
+    pub weighted_sums: usize,
 }
 
 // Those of a group of rays, and of ledger and marks.
@@ -37,7 +38,10 @@ pub fn sums_accepted(head: ScanHead, given: SumLengths) -> bool
     if given.quality_sums != cells {
         return false;
     }
-    given.value_sums == cells
+    if given.value_sums != cells {
+        return false;
+    }
+    given.weighted_sums == cells
 }
 
 // A ray or more; rays x gates of the group; rays x gates of the whole ledger and of all marks. No more rays than are announced.

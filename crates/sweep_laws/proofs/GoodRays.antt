@@ -21,11 +21,12 @@ use Rattle.tally.proofs.TallyWidth.{GatesMost, from-nothing-fits}
 use Rattle.placement.specs.declared.gate.Placement.{Placement}
 use Rattle.placement.specs.Gate.{entryOf}
 use Rattle.scan.specs.declared.head.ScanHead.{ScanHead}
+use Rattle.scan.specs.LentLists.{Lists}
 use Rattle.scan.specs.Rays.{regularRays}
 use Rattle.scan.specs.Scan.{gatesOf}
 use Rattle.scan.specs.ScanRefusal.{qualityAccepted}
 use Rattle.scan_ledger.specs.ScanLedger.{gatesTold}
-use Rattle.accepted_take.specs.RayGroup.{RayGroup, RayLists}
+use Rattle.accepted_take.specs.RayGroup.{RayGroup}
 use Rattle.accepted_take.specs.TakenLists.{groupLedger}
 use Rattle.accepted_take.proofs.AcceptedGroup.{AcceptedGroup}
 use Rattle.sweep_laws.specs.SweepSequence.{Sixteen, joined}
@@ -58,7 +59,7 @@ module _ {head : ScanHead} {rays : RayGroup} (good : GoodRays head rays) where
   qualities-most k = leb-true _ _ (all-at qualityAccepted (rays .qualities) refl (good .qualities-good) k)
 
   -- from nothing, no count or sum passes its width
-  pub rays-fit : (sums : Sums) → fitWidths (addedSums (head .weighting) (ledgerSoFar head rays) (rays .values) (rays .qualities) (cleared sums)) ≡ true
+  pub rays-fit : (sums : Sums) → fitWidths (addedSums (ledgerSoFar head rays) (rays .values) (rays .qualities) (cleared sums)) ≡ true
   rays-fit sums =
       let gates = mul-le-mul (good .rays-most) (good .gates-most) in
       let most : GatesMost (ledgerSoFar head rays) (rays .values) (rays .qualities) = record {
@@ -66,10 +67,10 @@ module _ {head : ScanHead} {rays : RayGroup} (good : GoodRays head rays) where
         values-most = values-most;
         qualities-most = qualities-most;
       } in
-      from-nothing-fits most (head .weighting) sums
+      from-nothing-fits most sums
 
   -- another group behind them
-  module _ {closed : Bool} {taken : ℕ} {group : RayGroup} {lists : RayLists} (next : AcceptedGroup head closed taken group lists) (so-many : taken ≡ length (rays .azimuths)) where
+  module _ {closed : Bool} {taken : ℕ} {group : RayGroup} {lists : Lists} (next : AcceptedGroup head closed taken group lists) (so-many : taken ≡ length (rays .azimuths)) where
     pub good-joined : Sixteen (group .values) → GoodRays head (joined rays group)
     unfolding joined Sixteen
     good-joined sixteen = record {
@@ -89,12 +90,12 @@ module _ {head : ScanHead} {rays : RayGroup} (good : GoodRays head rays) where
         ∙ sets-append lent 0 (toldSoFar told head rays) (toldSoFar told head group)
         ∙ ap (sets lent 0) (sym (told-joined told head (head .gates) (rays .azimuths) (group .azimuths)))
 
-    pub sums-behind : (sums : Sums) → addedSums (head .weighting) (groupLedger head group) (group .values) (group .qualities) (addedSums (head .weighting) (ledgerSoFar head rays) (rays .values) (rays .qualities) sums) ≡ addedSums (head .weighting) (ledgerSoFar head (joined rays group)) (joined rays group .values) (joined rays group .qualities) sums
+    pub sums-behind : (sums : Sums) → addedSums (groupLedger head group) (group .values) (group .qualities) (addedSums (ledgerSoFar head rays) (rays .values) (rays .qualities) sums) ≡ addedSums (ledgerSoFar head (joined rays group)) (joined rays group .values) (joined rays group .qualities) sums
     unfolding joined
     sums-behind sums =
         let length-is = sym (told-length entryOf head (head .gates) (rays .azimuths)) in
-        sym (added-joined (ledgerSoFar head rays) (rays .values) (rays .qualities) (groupLedger head group) (group .values) (group .qualities) (good .values-length ∙ length-is) (good .qualities-length ∙ length-is) (head .weighting) sums)
-        ∙ sym (ap (λ (l : List ℕ). addedSums (head .weighting) l (rays .values ++ group .values) (rays .qualities ++ group .qualities) sums) (told-joined entryOf head (head .gates) (rays .azimuths) (group .azimuths)))
+        sym (added-joined (ledgerSoFar head rays) (rays .values) (rays .qualities) (groupLedger head group) (group .values) (group .qualities) (good .values-length ∙ length-is) (good .qualities-length ∙ length-is) sums)
+        ∙ sym (ap (λ (l : List ℕ). addedSums l (rays .values ++ group .values) (rays .qualities ++ group .qualities) sums) (told-joined entryOf head (head .gates) (rays .azimuths) (group .azimuths)))
 
     -- a list with room for all rays announced has room for these, whatever was stored in it
     pub room-behind : (list lent stored : List ℕ) → length list ≡ gatesOf head → list ≡ sets lent 0 stored → length (joined rays group .azimuths) * head .gates ≤ length lent

@@ -9,13 +9,12 @@ use Rattle.refusal.specs.Checks.{Check, _unless_, firstRefusal, _then_}
 use Rattle.refusal.proofs.AnswerLaws.{refused-is}
 use Rattle.tally.specs.Width.{fitWidths}
 use Rattle.scan.specs.declared.head.ScanHead.{ScanHead}
-use Rattle.scan.specs.LentLists.{Lists}
 use Rattle.scan.specs.ScanRefusal.{scanNumber}
 use Rattle.sweep_checks.specs.SweepNumbers.{stateNumber, takeNumber, closeNumber}
 use Rattle.accepted_take.specs.RayGroup.{RayGroup}
 use Rattle.accepted_take.specs.TakenLists.{takenLists, takeChecks, takeRefusal}
 use Rattle.sweep.specs.SweepOperations.{sweptAnswer, raysRefusal, counted, closeRefusal, ended}
-use Rattle.sweep_laws.specs.SweepSequence.{Held, rayLists, Call, takes, closes, Sixteen, IsCall, NotRefusedBy}
+use Rattle.sweep_laws.specs.SweepSequence.{SweepLists, Held, Call, takes, closes, Sixteen, IsCall, NotRefusedBy}
 use Rattle.sweep_laws.proofs.SweepInvariant.{SoFar, always-fits}
 
 -- ---- the other numbers
@@ -54,21 +53,21 @@ state-other head closed taken more = first-other _ ((λ e. omega (arith, e)) and
 
 -- ---- the calls
 
-module _ {head : ScanHead} {lent : Lists} {rays : RayGroup} {held : Held} (so-far : SoFar head lent rays held) where
-  checks-other : (group : RayGroup) → Other (takeChecks (held .sweep .head) (held .sweep .closed) (held .sweep .taken) group (rayLists held))
+module _ {head : ScanHead} {lent : SweepLists} {rays : RayGroup} {held : Held} (so-far : SoFar head lent rays held) where
+  checks-other : (group : RayGroup) → Other (takeChecks (held .sweep .head) (held .sweep .closed) (held .sweep .taken) group (held .lists .tally))
   unfolding takeChecks takeNumber
   checks-other group = other-then _ _ (state-other _ _ _ _) (scan-other _ _ _ _)
 
-  take-other : (group : RayGroup) → Sixteen (group .values) → Other (raysRefusal (held .sweep) group (rayLists held))
+  take-other : (group : RayGroup) → Sixteen (group .values) → Other (raysRefusal (held .sweep) group (held .lists .tally))
   unfolding raysRefusal takeRefusal firstRefusal _then_ Other
   take-other group sixteen e =
-      go (takeChecks (held .sweep .head) (held .sweep .closed) (held .sweep .taken) group (rayLists held)) refl e
+      go (takeChecks (held .sweep .head) (held .sweep .closed) (held .sweep .taken) group (held .lists .tally)) refl e
     where
-      go : (n : ℕ) → takeChecks (held .sweep .head) (held .sweep .closed) (held .sweep .taken) group (rayLists held) ≡ n → (n then cond (fitWidths (takenLists (held .sweep .head) (held .sweep .taken) group (rayLists held) .sums)) 0 31) ≡ 31 → ⊥
+      go : (n : ℕ) → takeChecks (held .sweep .head) (held .sweep .closed) (held .sweep .taken) group (held .lists .tally) ≡ n → (n then cond (fitWidths (takenLists (held .sweep .head) (held .sweep .taken) group (held .lists .tally) .sums)) 0 31) ≡ 31 → ⊥
       go zero z f = let wrong : _≡_ {A = ℕ} 0 31 = rw (always-fits so-far group sixteen z) at f in omega (arith, wrong)
       go (suc n) z f = checks-other group (z ∙ f)
 
-  close-other : Other (closeRefusal (held .sweep) (held .lists .sums) (held .lists .cells))
+  close-other : Other (closeRefusal (held .sweep) (held .lists .tally .sums) (held .lists .cells))
   unfolding closeRefusal closeNumber Other Others
   close-other = other-then _ _ (other-then _ _ (state-other _ _ _ _) (scan-other _ _ _ _)) (first-other _ ((λ e. omega (arith, e)) and (λ e. omega (arith, e)) and tt))
 
@@ -79,6 +78,6 @@ module _ {head : ScanHead} {lent : Lists} {rays : RayGroup} {held : Held} (so-fa
     others,
   )
   call-other (closes answer cells) contract calls others = (
-    λ e. let told : refuses 31 ≡ answered (closeRefusal (held .sweep) (held .lists .sums) (held .lists .cells)) (ended (held .sweep)) = ap sweptAnswer (sym e) ∙ contract .the-answer in close-other (sym (refused-is _ _ told .0)),
+    λ e. let told : refuses 31 ≡ answered (closeRefusal (held .sweep) (held .lists .tally .sums) (held .lists .cells)) (ended (held .sweep)) = ap sweptAnswer (sym e) ∙ contract .the-answer in close-other (sym (refused-is _ _ told .0)),
     others,
   )

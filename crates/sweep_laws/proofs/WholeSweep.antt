@@ -13,6 +13,8 @@ use Rattle.arithmetic.specs.Places.{sumTo, allOf}
 use Rattle.arithmetic.proofs.SetsLaws.{sets-start-at}
 use Rattle.refusal.specs.Checks.{inRange, firstRefusal}
 use Rattle.refusal.proofs.AnswerLaws.{given-is, filled-is}
+use Rattle.refusal.specs.declared.outcome.Outcome.{Outcome}
+use Rattle.publish.specs.Publish.{publishedCells}
 use Rattle.refusal.proofs.RangeBounds.{range-bounds}
 use Rattle.placement.specs.declared.gate.Placement.{Placement}
 use Rattle.placement.specs.Gate.{entryOf, markOf}
@@ -26,9 +28,8 @@ use Rattle.scan.specs.Scan.{raysOf, gatesOf, cellsOf}
 use Rattle.scan.specs.ScanRefusal.{listsExact, scanNumber, scanRefusal, refusalFor}
 use Rattle.scan.proofs.AcceptedScan.{cells-most, AcceptedNumbers, accepted-numbers}
 use Rattle.scan_ledger.specs.ScanLedger.{gatesTold}
-use Rattle.accepted_remap.specs.FilledLists.{filledLists}
-use Rattle.remap.specs.declared.Remapped.{Remapped}
-use Rattle.remap.specs.Remap.{Remaps}
+use Rattle.accepted_tally.specs.TalliedLists.{talliedLists}
+use Rattle.scan_tally.specs.ScanTally.{Tallies}
 use Rattle.scan_laws.specs.Placed.{placedOf}
 use Rattle.scan_laws.specs.ExactCount.{ExactByMarks}
 use Rattle.scan_laws.proofs.ExactCount.{exact-by-marks}
@@ -41,25 +42,25 @@ use Rattle.accepted_take.specs.TakenLists.{sumLengths}
 use Rattle.sweep.specs.declared.Sweep.{Sweep}
 use Rattle.sweep.specs.declared.Swept.the-variants.{State}
 use Rattle.sweep.specs.SweepOperations.{sweptAnswer, openRefusal, opened, Opens}
-use Rattle.sweep_laws.specs.SweepSequence.{Held, heldFrom, Call, Sixteen, Sequence, heldAfter, noRays, acceptedRays, wholeScan, NotRefusedBy}
-use Rattle.sweep_laws.specs.WholeSweep.{WholeSweep, AsRemapped}
+use Rattle.sweep_laws.specs.SweepSequence.{SweepLists, Held, heldFrom, Call, Sixteen, Sequence, heldAfter, noRays, acceptedRays, wholeScan, NotRefusedBy}
+use Rattle.sweep_laws.specs.WholeSweep.{WholeSweep, AsTallied}
 use Rattle.sweep_laws.proofs.JoinedRays.{told-length}
 use Rattle.sweep_laws.proofs.GoodRays.{toldSoFar}
-use Rattle.sweep_laws.proofs.SweepInvariant.{SoFar, sums-are, after-call}
+use Rattle.sweep_laws.proofs.SweepInvariant.{SoFar, sums-are, either-published, after-call}
 use Rattle.sweep_laws.proofs.NoWidthRefusal.{call-other}
 
 -- ---- from what is kept by every call
 
-module _ {head : ScanHead} {lengths azimuths qualities : Bool} (numbers : AcceptedNumbers head lengths azimuths qualities) {lent : Lists} {rays : RayGroup} {held : Held} (so-far : SoFar head lent rays held) where
-  ledger-is : held .lists .ledger ≡ sets (lent .ledger) 0 (filledLists (wholeScan head rays) .ledger)
-  unfolding filledLists wholeScan raysOf gatesTold
+module _ {head : ScanHead} {lengths azimuths qualities : Bool} (numbers : AcceptedNumbers head lengths azimuths qualities) {lent : SweepLists} {rays : RayGroup} {held : Held} (so-far : SoFar head lent rays held) where
+  ledger-is : held .lists .tally .ledger ≡ sets (lent .tally .ledger) 0 (talliedLists (wholeScan head rays) .ledger)
+  unfolding talliedLists wholeScan raysOf gatesTold
   ledger-is = so-far .the-ledger
 
-  marks-are : held .lists .marks ≡ sets (lent .marks) 0 (filledLists (wholeScan head rays) .marks)
-  unfolding filledLists wholeScan raysOf gatesTold
+  marks-are : held .lists .tally .marks ≡ sets (lent .tally .marks) 0 (talliedLists (wholeScan head rays) .marks)
+  unfolding talliedLists wholeScan raysOf gatesTold
   marks-are = so-far .the-marks
 
-  total : sumTo (λ cell. getD (held .lists .sums .counts) cell 0) (length (held .lists .sums .counts)) ≡ placedOf (wholeScan head rays)
+  total : sumTo (λ cell. getD (held .lists .tally .sums .counts) cell 0) (length (held .lists .tally .sums .counts)) ≡ placedOf (wholeScan head rays)
   unfolding wholeScan cellsOf
   total =
       ap (λ (s : Sums). sumTo (λ cell. getD (s .counts) cell 0) (length (s .counts))) (sums-are so-far)
@@ -72,12 +73,12 @@ module _ {head : ScanHead} {lengths azimuths qualities : Bool} (numbers : Accept
       let so-many = told-length tell head (head .gates) (rays .azimuths) in
       sets-start-at list (toldSoFar tell head rays) k (omega (arith, so-many)) (omega (arith, so-many))
 
-  exact : ExactByMarks (wholeScan head rays) (held .lists .ledger) (held .lists .marks)
-  unfolding filledLists wholeScan raysOf gatesTold
+  exact : ExactByMarks (wholeScan head rays) (held .lists .tally .ledger) (held .lists .tally .marks)
+  unfolding talliedLists wholeScan raysOf gatesTold
   exact =
-      exact-by-marks (wholeScan head rays) refl (range-bounds 1 1000 (head .gates) (numbers .gates-accepted) .0) (numbers .centres-accepted) (numbers .site-accepted) (numbers .grid-accepted) (so-far .rays-good .azimuths-good) (held .lists .ledger) (held .lists .marks)
-      (λ k i. ap (λ (l : List ℕ). getD l k 0) (so-far .the-ledger) ∙ told-at entryOf (lent .ledger) (so-far .ledger-room) k i)
-      (λ k i. ap (λ (l : List ℕ). getD l k 0) (so-far .the-marks) ∙ told-at markOf (lent .marks) (so-far .marks-room) k i)
+      exact-by-marks (wholeScan head rays) refl (range-bounds 1 1000 (head .gates) (numbers .gates-accepted) .0) (numbers .centres-accepted) (numbers .site-accepted) (numbers .grid-accepted) (so-far .rays-good .azimuths-good) (held .lists .tally .ledger) (held .lists .tally .marks)
+      (λ k i. ap (λ (l : List ℕ). getD l k 0) (so-far .the-ledger) ∙ told-at entryOf (lent .tally .ledger) (so-far .ledger-room) k i)
+      (λ k i. ap (λ (l : List ℕ). getD l k 0) (so-far .the-marks) ∙ told-at markOf (lent .tally .marks) (so-far .marks-room) k i)
 
   whole : WholeSweep head lent rays held
   whole = record {
@@ -88,12 +89,13 @@ module _ {head : ScanHead} {lengths azimuths qualities : Bool} (numbers : Accept
     the-marks = marks-are;
     the-sums = sums-are so-far;
     the-cells = so-far .the-cells;
+    either-sheet = either-published so-far;
     count-total = total;
     exact-by-marks = exact;
   }
 
 -- call after call
-after-calls : {head : ScanHead} {lent : Lists} {rays : RayGroup} {held : Held} (calls : List Call) → SoFar head lent rays held → Sequence held calls → SoFar head lent (acceptedRays rays calls) (heldAfter held calls) × NotRefusedBy 31 calls
+after-calls : {head : ScanHead} {lent : SweepLists} {rays : RayGroup} {held : Held} (calls : List Call) → SoFar head lent rays held → Sequence held calls → SoFar head lent (acceptedRays rays calls) (heldAfter held calls) × NotRefusedBy 31 calls
 unfolding Sequence acceptedRays heldAfter NotRefusedBy
 after-calls [] so-far done = (so-far, tt)
 after-calls (call ∷ calls) so-far (this, others) =
@@ -102,16 +104,16 @@ after-calls (call ∷ calls) so-far (this, others) =
 
 -- ---- from an accepted opening
 
-module _ (head : ScanHead) (lent : Lists) (sums : Sums) (sweep : Sweep) (opens : Opens head (record { entry = lent .sums; exit = sums }) (State sweep)) where
-  told : (openRefusal head (lent .sums) ≡ 0) × (sweep ≡ opened head)
+module _ (head : ScanHead) (lent : SweepLists) (sums : Sums) (sweep : Sweep) (opens : Opens head (record { entry = lent .tally .sums; exit = sums }) (State sweep)) where
+  told : (openRefusal head (lent .tally .sums) ≡ 0) × (sweep ≡ opened head)
   unfolding sweptAnswer
-  told = given-is (openRefusal head (lent .sums)) (opens .the-answer)
+  told = given-is (openRefusal head (lent .tally .sums)) (opens .the-answer)
 
-  numbers : AcceptedNumbers head (sumsAccepted head (sumLengths (lent .sums))) true true
+  numbers : AcceptedNumbers head (sumsAccepted head (sumLengths (lent .tally .sums))) true true
   unfolding openRefusal openNumber
   numbers = accepted-numbers head _ _ _ (told .0)
 
-  at-first : SoFar head lent noRays (heldFrom (opened head) lent (cleared (lent .sums)))
+  at-first : SoFar head lent noRays (heldFrom (opened head) lent (cleared (lent .tally .sums)))
   unfolding heldFrom opened noRays addedSums gatesTold allGates flatMap regularRays allOf Sixteen
   at-first = record {
     rays-good = record {
@@ -123,7 +125,7 @@ module _ (head : ScanHead) (lent : Lists) (sums : Sums) (sweep : Sweep) (opens :
       qualities-good = refl;
       values-good = refl;
     };
-    sums-exact = accepted-sums head (lent .sums) (numbers .lengths-accepted);
+    sums-exact = accepted-sums head (lent .tally .sums) (numbers .lengths-accepted);
     same-head = refl;
     rays-counted = refl;
     all-when-closed = λ was. let wrong : _≡_ {A = ℕ} 0 1 = ap (λ (b : Bool). cond b 1 0) was in absurd (omega (arith, wrong));
@@ -131,12 +133,12 @@ module _ (head : ScanHead) (lent : Lists) (sums : Sums) (sweep : Sweep) (opens :
     the-marks = refl;
     ledger-room = omega (arith, zero-mul (head .gates));
     marks-room = omega (arith, zero-mul (head .gates));
-    the-sums = sym (added-none (head .weighting) [] [] [] (cleared (lent .sums)));
+    the-sums = sym (added-none [] [] [] (cleared (lent .tally .sums)));
     the-cells = refl;
   }
 
   begun : SoFar head lent noRays (heldFrom sweep lent sums)
-  begun = rw (told .1, filled-is (lent .sums) (told .0) (opens .the-sums)) at-first
+  begun = rw (told .1, filled-is (lent .tally .sums) (told .0) (opens .the-sums)) at-first
 
   module _ (calls : List Call) (sequence : Sequence (heldFrom sweep lent sums) calls) where
     -- "While the caller hands on the latest state and untouched lists, ledger, sums and cells equal those of the whole scan made of the accepted
@@ -148,7 +150,7 @@ module _ (head : ScanHead) (lent : Lists) (sums : Sums) (sweep : Sweep) (opens :
     pub never-31 : NotRefusedBy 31 calls
     never-31 = after-calls calls begun sequence .1
 
-    -- the whole scan made of the accepted rays is one that `remap` accepts, if there is a ray
+    -- the whole scan made of the accepted rays is one that `tally` accepts, if there is a ray
     pub whole-accepted : (length (acceptedRays noRays calls .azimuths) ≡ 0 → ⊥) → (lists : Lists) → listsExact (wholeScan head (acceptedRays noRays calls)) lists ≡ true → refusalFor (wholeScan head (acceptedRays noRays calls)) lists ≡ 0
     unfolding wholeScan refusalFor scanRefusal scanNumber firstRefusal inRange
     whole-accepted some lists exact =
@@ -156,8 +158,14 @@ module _ (head : ScanHead) (lent : Lists) (sums : Sums) (sweep : Sweep) (opens :
         let good = after-calls calls begun sequence .0 .rays-good in
         rw (le-leb 1 (length (rays .azimuths)) (omega arith), le-leb (length (rays .azimuths)) 720 (good .rays-most), numbers .gates-accepted, numbers .centres-accepted, numbers .site-accepted, numbers .grid-accepted, exact, good .azimuths-good, good .qualities-good)
 
-    -- so whatever `remap` is lent for that scan, of exact lengths, it leaves what the caller holds
-    pub as-remapped : (length (acceptedRays noRays calls .azimuths) ≡ 0 → ⊥) → (lists : Both Lists Lists) (answer : Remapped) → listsExact (wholeScan head (acceptedRays noRays calls)) (lists .entry) ≡ true → Remaps (wholeScan head (acceptedRays noRays calls)) lists answer → AsRemapped lent (heldAfter (heldFrom sweep lent sums) calls) (lists .exit)
-    as-remapped some lists answer exact remaps =
-        let same = filled-is (lists .entry) (whole-accepted some (lists .entry) exact) (remaps .the-lists) in
-        rw same (record { same-ledger = whole-sweep .the-ledger; same-marks = whole-sweep .the-marks; same-sums = whole-sweep .the-sums; same-cells = whole-sweep .the-cells })
+    -- so whatever `tally` is lent for that scan, of exact lengths, it leaves what the caller holds
+    pub as-tallied : (length (acceptedRays noRays calls .azimuths) ≡ 0 → ⊥) → (lists : Both Lists Lists) (answer : Outcome) → listsExact (wholeScan head (acceptedRays noRays calls)) (lists .entry) ≡ true → Tallies (wholeScan head (acceptedRays noRays calls)) lists answer → AsTallied head lent (heldAfter (heldFrom sweep lent sums) calls) (lists .exit)
+    as-tallied some lists answer exact tallies =
+        let same = filled-is (lists .entry) (whole-accepted some (lists .entry) exact) (tallies .the-lists) in
+        let sheet = ap (publishedCells (head .weighting)) (sym (whole-sweep .the-sums)) ∙ whole-sweep .either-sheet (head .weighting) in
+        rw same (record {
+          same-ledger = whole-sweep .the-ledger;
+          same-marks = whole-sweep .the-marks;
+          same-sums = whole-sweep .the-sums;
+          same-cells = rw sheet (whole-sweep .the-cells);
+        })

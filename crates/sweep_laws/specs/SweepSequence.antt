@@ -11,7 +11,7 @@ use Rattle.tally.specs.LentSums.{Sums, Cells}
 use Rattle.scan.specs.declared.head.ScanHead.{ScanHead}
 use Rattle.scan.specs.LentLists.{Lists}
 use Rattle.scan.specs.Scan.{Scan}
-use Rattle.accepted_take.specs.RayGroup.{RayGroup, RayLists}
+use Rattle.accepted_take.specs.RayGroup.{RayGroup}
 use Rattle.sweep.specs.declared.Sweep.{Sweep}
 use Rattle.sweep.specs.declared.Swept.{Swept}
 use Rattle.sweep.specs.declared.Swept.the-variants.{State, Refused}
@@ -19,22 +19,26 @@ use Rattle.sweep.specs.SweepOperations.{Takes, Closes}
 
 -- ---- what the caller holds
 
+-- all lists that are lent for a sweep: those of its tally, and its cells
+pub record SweepLists : Type 0 where
+  pub tally : Lists
+  pub cells : Cells
+
 pub record Held : Type 0 where
   pub sweep : Sweep
-  pub lists : Lists
+  pub lists : SweepLists
 
 -- after an accepted opening, which left these sums
-unfoldable pub heldFrom : Sweep → Lists → Sums → Held
-heldFrom sweep lent sums = record { sweep = sweep; lists = record { ledger = lent .ledger; marks = lent .marks; sums = sums; cells = lent .cells } }
-
--- the lists that a group is lent
-abbrev pub rayLists : Held → RayLists
-rayLists held = record { ledger = held .lists .ledger; marks = held .lists .marks; sums = held .lists .sums }
+unfoldable pub heldFrom : Sweep → SweepLists → Sums → Held
+heldFrom sweep lent sums = record {
+  sweep = sweep;
+  lists = record { tally = record { ledger = lent .tally .ledger; marks = lent .tally .marks; sums = sums }; cells = lent .cells };
+}
 
 -- ---- calls: what is given, what is answered, and the lists afterwards
 
 pub data Call : Type 0 where
-  takes : RayGroup → Swept → RayLists → Call
+  takes : RayGroup → Swept → Lists → Call
   closes : Swept → Cells → Call
 
 -- a refusal gives its number only, and the state before it is the latest
@@ -45,11 +49,11 @@ latest before (Refused number) = before
 unfoldable pub handedOn : Held → Call → Held
 handedOn held (takes group answer lists) = record {
   sweep = latest (held .sweep) answer;
-  lists = record { ledger = lists .ledger; marks = lists .marks; sums = lists .sums; cells = held .lists .cells };
+  lists = record { tally = lists; cells = held .lists .cells };
 }
 handedOn held (closes answer cells) = record {
   sweep = latest (held .sweep) answer;
-  lists = record { ledger = held .lists .ledger; marks = held .lists .marks; sums = held .lists .sums; cells = cells };
+  lists = record { tally = held .lists .tally; cells = cells };
 }
 
 -- values of 16 bits, as every list of them that is given
@@ -59,9 +63,9 @@ Sixteen values = allOf (λ value. leb value 65535) values ≡ true
 -- the call is one of `take_rays` or `close`, on what the caller holds
 unfoldable pub IsCall : Held → Call → Type 0
 IsCall held (takes group answer lists) =
-    Takes (held .sweep) group (record { entry = rayLists held; exit = lists }) answer
+    Takes (held .sweep) group (record { entry = held .lists .tally; exit = lists }) answer
     × Sixteen (group .values)
-IsCall held (closes answer cells) = Closes (held .sweep) (held .lists .sums) (record { entry = held .lists .cells; exit = cells }) answer
+IsCall held (closes answer cells) = Closes (held .sweep) (held .lists .tally .sums) (record { entry = held .lists .cells; exit = cells }) answer
 
 -- one call after the other, refused ones among them
 unfoldable pub Sequence : Held → List Call → Type 0

@@ -10,8 +10,7 @@ use Rattle.tally.specs.LentSums.{Sums}
 use Rattle.tally.specs.Tally.{addedSums}
 use Rattle.tally.specs.TallyRoom.{AddsGates}
 use Rattle.tally.specs.Width.{fitWidths}
-use Rattle.tally.specs.declared.gates.Weighting.{Weighting}
 
-pub all-added : {weighting : Weighting} {ledger values qualities : List ℕ} {sums : Both Sums Sums} {gates : ℕ} → AddsGates weighting ledger values qualities sums gates → fitWidths (addedSums weighting ledger values qualities (sums .entry)) ≡ true → sums .exit ≡ addedSums weighting ledger values qualities (sums .entry)
+pub all-added : {ledger values qualities : List ℕ} {sums : Both Sums Sums} {gates : ℕ} → AddsGates ledger values qualities sums gates → fitWidths (addedSums ledger values qualities (sums .entry)) ≡ true → sums .exit ≡ addedSums ledger values qualities (sums .entry)
 unfolding addedSums
 all-added {ledger = ledger} {gates = gates} adds fit = adds .the-sums ∙ rw (eqb-true gates (length ledger) (adds .whether-all ∙ fit))

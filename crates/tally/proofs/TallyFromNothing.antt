@@ -6,9 +6,8 @@ use native.Mathlib.Omega.{arith}
 use lib.ListN.{length, getD, replicate, length-replicate}
 use Rattle.arithmetic.specs.Places.{table}
 use Rattle.arithmetic.proofs.Places.{table-ext}
-use Rattle.tally.specs.declared.gates.Weighting.{Weighting}
 use Rattle.tally.specs.LentSums.{Sums}
-use Rattle.tally.specs.Tally.{countOf, qualitySumOf, valueSumOf, talliedSums, cleared, added, addedFirst, addedSums}
+use Rattle.tally.specs.Tally.{countOf, qualitySumOf, valueSumOf, weightedSumOf, talliedSums, cleared, added, addedFirst, addedSums}
 
 pub zeros-at : (n cell : ℕ) → _≡_ {A = ℕ} (getD (replicate n 0) cell 0) 0
 zeros-at zero cell = refl
@@ -21,10 +20,11 @@ added-to-zeros share n {m} e =
     ap (table (λ cell. getD (replicate n 0) cell 0 + share cell)) (length-replicate n 0 ∙ e)
     ∙ table-ext _ _ m (λ cell h. omega (arith, zeros-at n cell))
 
-pub from-nothing : (weighting : Weighting) (ledger values qualities : List ℕ) (sums : Sums) {cells : ℕ} → length (sums .counts) ≡ cells → length (sums .qualitySums) ≡ cells → length (sums .valueSums) ≡ cells → addedSums weighting ledger values qualities (cleared sums) ≡ talliedSums weighting ledger values qualities cells
-unfolding talliedSums addedFirst addedSums cleared countOf qualitySumOf valueSumOf
-from-nothing weighting ledger values qualities sums c q v i = record {
+pub from-nothing : (ledger values qualities : List ℕ) (sums : Sums) {cells : ℕ} → length (sums .counts) ≡ cells → length (sums .qualitySums) ≡ cells → length (sums .valueSums) ≡ cells → length (sums .weightedSums) ≡ cells → addedSums ledger values qualities (cleared sums) ≡ talliedSums ledger values qualities cells
+unfolding talliedSums addedFirst addedSums cleared countOf qualitySumOf valueSumOf weightedSumOf
+from-nothing ledger values qualities sums c q v w i = record {
   counts = added-to-zeros (countOf ledger values qualities) _ c i;
   qualitySums = added-to-zeros (qualitySumOf ledger values qualities) _ q i;
-  valueSums = added-to-zeros (valueSumOf ledger values qualities weighting) _ v i;
+  valueSums = added-to-zeros (valueSumOf ledger values qualities) _ v i;
+  weightedSums = added-to-zeros (weightedSumOf ledger values qualities) _ w i;
 }

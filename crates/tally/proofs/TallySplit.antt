@@ -8,10 +8,9 @@ use lib.ListN.{length, getD, take, length-append, List·getD-append}
 use lib.Seq.{length-take-le, getD-take, getD-append-add}
 use Rattle.arithmetic.specs.Places.{table}
 use Rattle.arithmetic.proofs.Places.{table-length, table-at, table-ext, sum-ext, sum-split}
-use Rattle.tally.specs.Gates.{weighed}
+use Rattle.tally.specs.Gates.{echoOf, weightedEcho}
 use Rattle.tally.specs.LentSums.{Sums}
 use Rattle.tally.specs.Tally.{contributes, sumOver, added, addedFirst, addedSums}
-use Rattle.tally.specs.declared.gates.Weighting.{Weighting}
 use Rattle.tally.proofs.TallyTurn.{none-added}
 
 -- a share and then another are added as their sum
@@ -24,12 +23,13 @@ added-twice f g whole e held =
     ∙ table-ext _ _ n (λ cell h. omega (arith, e cell, table-at once n cell h))
 
 -- no gates added
-pub added-none : (weighting : Weighting) (ledger values qualities : List ℕ) (sums : Sums) → addedFirst weighting ledger values qualities 0 sums ≡ sums
+pub added-none : (ledger values qualities : List ℕ) (sums : Sums) → addedFirst ledger values qualities 0 sums ≡ sums
 unfolding addedFirst
-added-none weighting ledger values qualities sums i = record {
+added-none ledger values qualities sums i = record {
   counts = sym (none-added ledger values qualities (λ value quality. 1) (sums .counts)) i;
   qualitySums = sym (none-added ledger values qualities (λ value quality. quality) (sums .qualitySums)) i;
-  valueSums = sym (none-added ledger values qualities (weighed weighting) (sums .valueSums)) i;
+  valueSums = sym (none-added ledger values qualities (λ value quality. echoOf value) (sums .valueSums)) i;
+  weightedSums = sym (none-added ledger values qualities weightedEcho (sums .weightedSums)) i;
 }
 
 -- the first n gates of a part are those of the whole from a place on
@@ -47,12 +47,13 @@ module _ {ledger values qualities partLedger partValues partQualities : List ℕ
       (sum-ext _ _ n (λ k h. rw (part .same-entries k h, part .same-values k h, part .same-qualities k h)))
 
   -- so the part may be added onto the gates before it
-  pub added-on : (weighting : Weighting) (sums : Sums) → addedFirst weighting partLedger partValues partQualities n (addedFirst weighting ledger values qualities from sums) ≡ addedFirst weighting ledger values qualities (from + n) sums
+  pub added-on : (sums : Sums) → addedFirst partLedger partValues partQualities n (addedFirst ledger values qualities from sums) ≡ addedFirst ledger values qualities (from + n) sums
   unfolding addedFirst
-  added-on weighting sums i = record {
+  added-on sums i = record {
     counts = added-twice _ _ _ (sums-add (λ value quality. 1)) (sums .counts) i;
     qualitySums = added-twice _ _ _ (sums-add (λ value quality. quality)) (sums .qualitySums) i;
-    valueSums = added-twice _ _ _ (sums-add (weighed weighting)) (sums .valueSums) i;
+    valueSums = added-twice _ _ _ (sums-add (λ value quality. echoOf value)) (sums .valueSums) i;
+    weightedSums = added-twice _ _ _ (sums-add weightedEcho) (sums .weightedSums) i;
   }
 
 -- gates that are joined end to end are added at once, or one part after the other
@@ -63,9 +64,9 @@ module _ (ledger values qualities ledger′ values′ qualities′ : List ℕ) (
   back : (xs ys : List ℕ) (k : ℕ) → length xs ≡ length ledger → getD ys k 0 ≡ getD (xs ++ ys) (length ledger + k) 0
   back xs ys k e = sym (ap (λ (m : ℕ). getD (xs ++ ys) (m + k) 0) (sym e) ∙ getD-append-add xs ys k 0)
 
-  pub added-joined : (weighting : Weighting) (sums : Sums) → addedSums weighting (ledger ++ ledger′) (values ++ values′) (qualities ++ qualities′) sums ≡ addedSums weighting ledger′ values′ qualities′ (addedSums weighting ledger values qualities sums)
+  pub added-joined : (sums : Sums) → addedSums (ledger ++ ledger′) (values ++ values′) (qualities ++ qualities′) sums ≡ addedSums ledger′ values′ qualities′ (addedSums ledger values qualities sums)
   unfolding addedSums
-  added-joined weighting sums =
+  added-joined sums =
       let first : PartOf (ledger ++ ledger′) (values ++ values′) (qualities ++ qualities′) 0 (length ledger) ledger values qualities = record {
         same-entries = λ k h. front ledger ledger′ k h;
         same-values = λ k h. front values values′ k (omega arith);
@@ -76,23 +77,23 @@ module _ (ledger values qualities ledger′ values′ qualities′ : List ℕ) (
         same-values = λ k h. back values values′ k v;
         same-qualities = λ k h. back qualities qualities′ k q;
       } in
-      ap (λ (n : ℕ). addedFirst weighting (ledger ++ ledger′) (values ++ values′) (qualities ++ qualities′) n sums) (length-append ledger ledger′)
-      ∙ sym (added-on second weighting sums)
-      ∙ ap (addedFirst weighting ledger′ values′ qualities′ (length ledger′))
-      (ap (λ (n : ℕ). addedFirst weighting (ledger ++ ledger′) (values ++ values′) (qualities ++ qualities′) n sums) (sym (zero-add (length ledger)))
-      ∙ sym (added-on first weighting sums)
-      ∙ ap (addedFirst weighting ledger values qualities (length ledger)) (added-none weighting _ _ _ sums))
+      ap (λ (n : ℕ). addedFirst (ledger ++ ledger′) (values ++ values′) (qualities ++ qualities′) n sums) (length-append ledger ledger′)
+      ∙ sym (added-on second sums)
+      ∙ ap (addedFirst ledger′ values′ qualities′ (length ledger′))
+      (ap (λ (n : ℕ). addedFirst (ledger ++ ledger′) (values ++ values′) (qualities ++ qualities′) n sums) (sym (zero-add (length ledger)))
+      ∙ sym (added-on first sums)
+      ∙ ap (addedFirst ledger values qualities (length ledger)) (added-none _ _ _ sums))
 
 -- the first gates, as a list of their own
-pub added-taken : (weighting : Weighting) (ledger values qualities : List ℕ) (n : ℕ) (sums : Sums) → n ≤ length ledger → addedFirst weighting ledger values qualities n sums ≡ addedSums weighting (take n ledger) (take n values) (take n qualities) sums
+pub added-taken : (ledger values qualities : List ℕ) (n : ℕ) (sums : Sums) → n ≤ length ledger → addedFirst ledger values qualities n sums ≡ addedSums (take n ledger) (take n values) (take n qualities) sums
 unfolding addedSums
-added-taken weighting ledger values qualities n sums h =
+added-taken ledger values qualities n sums h =
     let part : PartOf ledger values qualities 0 n (take n ledger) (take n values) (take n qualities) = record {
       same-entries = λ k i. rw zero-add (getD-take n ledger k 0 i);
       same-values = λ k i. rw zero-add (getD-take n values k 0 i);
       same-qualities = λ k i. rw zero-add (getD-take n qualities k 0 i);
     } in
-    ap (λ (m : ℕ). addedFirst weighting ledger values qualities m sums) (sym (zero-add n))
-    ∙ sym (added-on part weighting sums)
-    ∙ ap (addedFirst weighting (take n ledger) (take n values) (take n qualities) n) (added-none weighting _ _ _ sums)
-    ∙ ap (λ (m : ℕ). addedFirst weighting (take n ledger) (take n values) (take n qualities) m sums) (sym (length-take-le n ledger h))
+    ap (λ (m : ℕ). addedFirst ledger values qualities m sums) (sym (zero-add n))
+    ∙ sym (added-on part sums)
+    ∙ ap (addedFirst (take n ledger) (take n values) (take n qualities) n) (added-none _ _ _ sums)
+    ∙ ap (λ (m : ℕ). addedFirst (take n ledger) (take n values) (take n qualities) m sums) (sym (length-take-le n ledger h))

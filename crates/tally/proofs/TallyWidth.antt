@@ -8,12 +8,10 @@ use native.Mathlib.Omega.{arith}
 use borrow.Author.Tests.{eqb-false, not-true}
 use lib.Dec.{eqb}
 use lib.ListN.{length, getD, replicate}
-use Rattle.tally.specs.Gates.{isMeasured, echoOf, weighed}
+use Rattle.tally.specs.Gates.{isMeasured, echoOf, weightedEcho}
 use Rattle.tally.specs.LentSums.{Sums}
-use Rattle.tally.specs.Tally.{sumOver, countOf, qualitySumOf, valueSumOf, cleared, added, addedFirst, addedSums}
+use Rattle.tally.specs.Tally.{sumOver, countOf, qualitySumOf, valueSumOf, weightedSumOf, cleared, added, addedFirst, addedSums}
 use Rattle.tally.specs.Width.{most32, most64, within, fitWidths}
-use Rattle.tally.specs.declared.gates.Weighting.{Weighting}
-use Rattle.tally.specs.declared.gates.Weighting.the-variants.{Plain, ByQuality}
 use Rattle.tally.proofs.TallyTurn.{added-length, added-at, sum-over-most}
 use Rattle.tally.proofs.TallyFromNothing.{zeros-at}
 use Rattle.tally.proofs.WidthLaws.{within-true, all-fit}
@@ -28,10 +26,17 @@ echo-most value h m = go (eqb value 65534) refl
     go true e = zero-le
     go false e = omega (arith, eqb-false value 65534 e, eqb-false value 65535 (not-true (eqb value 65535) m))
 
-pub weighed-most : (weighting : Weighting) (value quality : ℕ) → value ≤ 65535 → quality ≤ 100 → isMeasured value ≡ true → weighed weighting value quality ≤ 65533 * 100
-unfolding weighed
-weighed-most Plain value quality h i m = omega (arith, echo-most value h m)
-weighed-most ByQuality value quality h i m = mul-le-mul (echo-most value h m) i
+pub echo-within : (value : ℕ) → echoOf value ≤ value
+unfolding echoOf
+echo-within value = go (eqb value 65534)
+  where
+    go : (t : Bool) → cond t 0 value ≤ value
+    go true = zero-le
+    go false = le-refl value
+
+weighted-echo-most : (value quality : ℕ) → value ≤ 65535 → quality ≤ 100 → isMeasured value ≡ true → weightedEcho value quality ≤ 65533 * 100
+unfolding weightedEcho
+weighted-echo-most value quality h i m = mul-le-mul (echo-most value h m) i
 
 -- ---- what all gates of a scan give at most
 
@@ -53,20 +58,25 @@ module _ {ledger values qualities : List ℕ} (g : GatesMost ledger values quali
   unfolding qualitySumOf
   quality-sum-most cell = all-most (λ value quality. quality) 100 cell (λ k m. g .qualities-most k)
 
-  pub value-sum-most : (weighting : Weighting) (cell : ℕ) → valueSumOf ledger values qualities weighting cell ≤ 720000 * 65533 * 100
+  pub value-sum-most : (cell : ℕ) → valueSumOf ledger values qualities cell ≤ 720000 * 65533
   unfolding valueSumOf
-  value-sum-most weighting cell =
-      all-most (weighed weighting) (65533 * 100) cell (λ k m. weighed-most weighting _ _ (g .values-most k) (g .qualities-most k) m)
+  value-sum-most cell = all-most (λ value quality. echoOf value) 65533 cell (λ k m. echo-most _ (g .values-most k) m)
+
+  pub weighted-sum-most : (cell : ℕ) → weightedSumOf ledger values qualities cell ≤ 720000 * 65533 * 100
+  unfolding weightedSumOf
+  weighted-sum-most cell =
+      all-most weightedEcho (65533 * 100) cell (λ k m. weighted-echo-most _ _ (g .values-most k) (g .qualities-most k) m)
 
   -- so from nothing no count or sum passes its width
   from-zeros : (f : ℕ → ℕ) (most n : ℕ) → ((cell : ℕ) → f cell ≤ most) → within most (added f (replicate n 0)) ≡ true
   from-zeros f most n h =
       within-true most _ (λ cell i. omega (arith, added-at f (replicate n 0) cell (omega (arith, added-length f (replicate n 0))), zeros-at n cell, h cell))
 
-  pub from-nothing-fits : (weighting : Weighting) (sums : Sums) → fitWidths (addedSums weighting ledger values qualities (cleared sums)) ≡ true
-  unfolding addedSums addedFirst cleared countOf qualitySumOf valueSumOf
-  from-nothing-fits weighting sums =
+  pub from-nothing-fits : (sums : Sums) → fitWidths (addedSums ledger values qualities (cleared sums)) ≡ true
+  unfolding addedSums addedFirst cleared countOf qualitySumOf valueSumOf weightedSumOf
+  from-nothing-fits sums =
       all-fit _
       (from-zeros (countOf ledger values qualities) most32 (length (sums .counts)) (λ cell. omega (arith, count-most cell)))
       (from-zeros (qualitySumOf ledger values qualities) most32 (length (sums .qualitySums)) (λ cell. omega (arith, quality-sum-most cell)))
-      (from-zeros (valueSumOf ledger values qualities weighting) most64 (length (sums .valueSums)) (λ cell. omega (arith, value-sum-most weighting cell)))
+      (from-zeros (valueSumOf ledger values qualities) most64 (length (sums .valueSums)) (λ cell. omega (arith, value-sum-most cell)))
+      (from-zeros (weightedSumOf ledger values qualities) most64 (length (sums .weightedSums)) (λ cell. omega (arith, weighted-sum-most cell)))

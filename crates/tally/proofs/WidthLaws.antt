@@ -1,5 +1,5 @@
 -- Sums within their widths: of one cell with a gate more, and of all cells. Assumes nothing.
-use mathlib.Core.Path.{_≡_, refl, sym, ap, _∙_}
+use mathlib.Core.Path.{_≡_, refl, sym, _∙_}
 use mathlib.Core.Bool.{Bool, true, false, not, _&&_}
 use mathlib.Core.List.{List, [], _∷_}
 use Prim.Native.Nat.{ℕ, zero, suc, _+_, _<_, _≤_}
@@ -31,40 +31,43 @@ set-small most (x ∷ xs) zero v h i (suc other) = h (suc other)
 set-small most (x ∷ xs) (suc cell) v h i zero = h zero
 set-small most (x ∷ xs) (suc cell) v h i (suc other) = set-small most xs cell v (λ o. h (suc o)) i other
 
--- ---- three lists
+-- ---- four lists
 
-pub all-fit : (sums : Sums) → within most32 (sums .counts) ≡ true → within most32 (sums .qualitySums) ≡ true → within most64 (sums .valueSums) ≡ true → fitWidths sums ≡ true
+pub all-fit : (sums : Sums) → within most32 (sums .counts) ≡ true → within most32 (sums .qualitySums) ≡ true → within most64 (sums .valueSums) ≡ true → within most64 (sums .weightedSums) ≡ true → fitWidths sums ≡ true
 unfolding fitWidths
-all-fit sums c q v = rw (c, q, v)
+all-fit sums c q v w = rw (c, q, v, w)
 
--- where one of three tests fails, one of three others fails
-one-fails : (a b c : Bool) {x y z : Bool} → (a ≡ false → x ≡ false) → (b ≡ false → y ≡ false) → (c ≡ false → z ≡ false) → (a && (b && c)) ≡ false → (x && (y && z)) ≡ false
-one-fails false b c {x} {y} {z} f g h e = rw (f refl)
-one-fails true false c {x} {y} {z} f g h e = rw (g refl) (and-false x)
-one-fails true true c {x} {y} {z} f g h e = rw (h e) (ap (λ (t : Bool). x && t) (and-false y) ∙ and-false x)
+-- where one of two tests fails, one of two others fails
+one-fails : (a b : Bool) {x y : Bool} → (a ≡ false → x ≡ false) → (b ≡ false → y ≡ false) → (a && b) ≡ false → (x && y) ≡ false
+one-fails false b {x} {y} f g e = rw (f refl)
+one-fails true b {x} {y} f g e = rw (g e) (and-false x)
 
 -- ---- the room that a gate has
 
-pub record Room (count qualitySum valueSum quality share : ℕ) : Type 0 where
+pub record Room (count qualitySum valueSum weightedSum quality echo weighted : ℕ) : Type 0 where
   pub count-room : count + 1 ≤ most32
   pub quality-room : qualitySum + quality ≤ most32
-  pub value-room : valueSum + share ≤ most64
+  pub value-room : valueSum + echo ≤ most64
+  pub weighted-room : weightedSum + weighted ≤ most64
 
-pub room : {count qualitySum valueSum quality share : ℕ} {r : Bool} → r ≡ hasRoom count qualitySum valueSum quality share → not r ≡ false → Room count qualitySum valueSum quality share
+pub room : {count qualitySum valueSum weightedSum quality echo weighted : ℕ} {r : Bool} → r ≡ hasRoom count qualitySum valueSum weightedSum quality echo weighted → not r ≡ false → Room count qualitySum valueSum weightedSum quality echo weighted
 unfolding hasRoom
 room e t =
     let first = and-true _ _ (sym e ∙ not-false _ t) in
     let second = and-true _ _ (first .1) in
+    let third = and-true _ _ (second .1) in
     record {
       count-room = leb-true _ _ (first .0);
       quality-room = leb-true _ _ (second .0);
-      value-room = leb-true _ _ (second .1);
+      value-room = leb-true _ _ (third .0);
+      weighted-room = leb-true _ _ (third .1);
     }
 
 -- a gate that has none: a list passes its width
-pub no-room : (count qualitySum valueSum quality share : ℕ) (sums : Sums) {r : Bool} → r ≡ hasRoom count qualitySum valueSum quality share → not r ≡ true → (leb (count + 1) most32 ≡ false → within most32 (sums .counts) ≡ false) → (leb (qualitySum + quality) most32 ≡ false → within most32 (sums .qualitySums) ≡ false) → (leb (valueSum + share) most64 ≡ false → within most64 (sums .valueSums) ≡ false) → fitWidths sums ≡ false
+pub no-room : (count qualitySum valueSum weightedSum quality echo weighted : ℕ) (sums : Sums) {r : Bool} → r ≡ hasRoom count qualitySum valueSum weightedSum quality echo weighted → not r ≡ true → (leb (count + 1) most32 ≡ false → within most32 (sums .counts) ≡ false) → (leb (qualitySum + quality) most32 ≡ false → within most32 (sums .qualitySums) ≡ false) → (leb (valueSum + echo) most64 ≡ false → within most64 (sums .valueSums) ≡ false) → (leb (weightedSum + weighted) most64 ≡ false → within most64 (sums .weightedSums) ≡ false) → fitWidths sums ≡ false
 unfolding hasRoom fitWidths
-no-room count qualitySum valueSum quality share sums e t f g h = one-fails _ _ _ f g h (sym e ∙ not-true _ t)
+no-room count qualitySum valueSum weightedSum quality echo weighted sums e t f g h j =
+    one-fails _ _ f (one-fails _ _ g (one-fails _ _ h j)) (sym e ∙ not-true _ t)
 
 -- ---- the number of gates that were added says whether all were
 

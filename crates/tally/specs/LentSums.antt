@@ -9,6 +9,7 @@ pub record Sums : Type 0 where
   pub counts : List ℕ
   pub qualitySums : List ℕ
   pub valueSums : List ℕ
+  pub weightedSums : List ℕ
 
 -- the published cells, a number for each
 pub record Cells : Type 0 where
@@ -20,8 +21,13 @@ pub record Cells : Type 0 where
 abbrev pub Slice : Type 0
 Slice = RefT (List ℕ)
 
-abbrev pub sumsHeld : Slice → Slice → Slice → Sums
-sumsHeld counts qualitySums valueSums = record { counts = now counts; qualitySums = now qualitySums; valueSums = now valueSums }
+abbrev pub sumsHeld : Slice → Slice → Slice → Slice → Sums
+sumsHeld counts qualitySums valueSums weightedSums = record {
+  counts = now counts;
+  qualitySums = now qualitySums;
+  valueSums = now valueSums;
+  weightedSums = now weightedSums;
+}
 
 abbrev pub cellsHeld : Slice → Slice → Cells
 cellsHeld means qualities = record { means = now means; qualities = now qualities }
@@ -31,10 +37,10 @@ cellsHeld means qualities = record { means = now means; qualities = now qualitie
 abbrev pub Lent : Type 0
 Lent = Both Slice Slice
 
-abbrev pub lentSums : Lent → Lent → Lent → Both Sums Sums
-lentSums counts qualitySums valueSums = record {
-  entry = sumsHeld (counts .entry) (qualitySums .entry) (valueSums .entry);
-  exit = sumsHeld (counts .exit) (qualitySums .exit) (valueSums .exit);
+abbrev pub lentSums : Lent → Lent → Lent → Lent → Both Sums Sums
+lentSums counts qualitySums valueSums weightedSums = record {
+  entry = sumsHeld (counts .entry) (qualitySums .entry) (valueSums .entry) (weightedSums .entry);
+  exit = sumsHeld (counts .exit) (qualitySums .exit) (valueSums .exit) (weightedSums .exit);
 }
 
 abbrev pub lentCells : Lent → Lent → Both Cells Cells

@@ -6,7 +6,6 @@ use Prim.Native.Nat.{ℕ, _≤_}
 use denote.Triple.Both.{Both}
 use lib.Dec.{eqb}
 use lib.ListN.{length}
-use Rattle.tally.specs.declared.gates.Weighting.{Weighting}
 use Rattle.tally.specs.LentSums.{Sums}
 use Rattle.tally.specs.Tally.{addedFirst, addedSums}
 use Rattle.tally.specs.Width.{fitWidths}
@@ -17,9 +16,10 @@ pub record Addable (ledger values qualities : List ℕ) (sums : Sums) : Type 0 w
   pub qualities-length : length qualities ≡ length ledger
   pub quality-sums-length : length (sums .qualitySums) ≡ length (sums .counts)
   pub value-sums-length : length (sums .valueSums) ≡ length (sums .counts)
+  pub weighted-sums-length : length (sums .weightedSums) ≡ length (sums .counts)
 
 -- so many gates are added, and they are all just where with all of them added no count or sum passes its width
-pub record AddsGates (weighting : Weighting) (ledger values qualities : List ℕ) (sums : Both Sums Sums) (gates : ℕ) : Type 0 where
+pub record AddsGates (ledger values qualities : List ℕ) (sums : Both Sums Sums) (gates : ℕ) : Type 0 where
   pub gates-most : gates ≤ length ledger
-  pub whether-all : eqb gates (length ledger) ≡ fitWidths (addedSums weighting ledger values qualities (sums .entry))
-  pub the-sums : sums .exit ≡ addedFirst weighting ledger values qualities gates (sums .entry)
+  pub whether-all : eqb gates (length ledger) ≡ fitWidths (addedSums ledger values qualities (sums .entry))
+  pub the-sums : sums .exit ≡ addedFirst ledger values qualities gates (sums .entry)

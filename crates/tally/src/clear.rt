@@ -5,14 +5,20 @@ ghost use Rattle.tally.specs.LentSums.{lentSums};
 ghost use Rattle.tally.specs.Tally.{cleared};
 
 // Tallies start from nothing: what the lent lists held before plays no part.
-pub fn clear_sums(counts: &mut [u32], quality_sums: &mut [u32], value_sums: &mut [u64])
+pub fn clear_sums(
+    counts: &mut [u32],
+    quality_sums: &mut [u32],
+    value_sums: &mut [u64],
+    weighted_sums: &mut [u64],
+)
     ensures { λ _.
-        let sums = lentSums counts «quality_sums» «value_sums» in
+        let sums = lentSums counts «quality_sums» «value_sums» «weighted_sums» in
         ⌜ sums .exit ≡ cleared (sums .entry) ⌝ }
 {
     clear32(counts);
     clear32(quality_sums);
     clear64(value_sums);
+    clear64(weighted_sums);
 }
 
 fn clear32(xs: &mut [u32])

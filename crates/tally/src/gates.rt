@@ -1,26 +1,17 @@
 // What a gate contributes to its cell.
 ghost use mathlib.Core.Path.{_≡_};
-ghost use Rattle.tally.specs.Gates.{echoOf, weighed};
+ghost use Rattle.tally.specs.Gates.{echoOf, weightedEcho};
 
-pub enum Weighting {
-    Plain,
-    ByQuality,
-}
-
-// 65,534 means measured with no echo and counts as 0.
-pub fn echo_of(value: u16) -> u16
+// To the value sum: the value. 65,534 means measured with no echo and counts as 0.
+pub fn echo_of(value: u16) -> u64
     ensures { λ r. ⌜ r ≡ echoOf value ⌝ }
 {
-    if value == 65534 { 0 } else { value }
+    if value == 65534 { 0 } else { value as u64 }
 }
 
-// Plain: the value; by quality: value x quality.
-pub fn weigh(weighting: Weighting, value: u16, quality: u8) -> u64
-    ensures { λ r. ⌜ r ≡ weighed weighting value quality ⌝ }
+// To the weighted sum: value x quality.
+pub fn weighted_echo(value: u16, quality: u8) -> u64
+    ensures { λ r. ⌜ r ≡ weightedEcho value quality ⌝ }
 {
-    let echo = echo_of(value) as u64;
-    match weighting {
-        Weighting::Plain => echo,
-        Weighting::ByQuality => echo * (quality as u64),
-    }
+    echo_of(value) * (quality as u64)
 }

@@ -1,8 +1,9 @@
 // What C, Rust and Python link: the proved functions under C names.
 pub mod gate;
+pub mod published_sums;
 pub mod record;
+pub mod tallied_scan;
 pub mod turning_scan;
-pub mod whole_scan;
 
 ghost use mathlib.Core.Path.{_≡_};
 ghost use Rattle.sine.specs.Sine.{sineOf, cosineOf};

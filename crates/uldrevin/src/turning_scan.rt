@@ -11,11 +11,12 @@ pub extern "C" fn uldrevin_sweep_open(
     counts: &mut [u32],
     quality_sums: &mut [u32],
     value_sums: &mut [u64],
+    weighted_sums: &mut [u64],
     sweep: &mut [i64; 15],
 ) -> u32
-    ensures { λ r. ⌜ OpensSweep scan counts «quality_sums» «value_sums» sweep r ⌝ }
+    ensures { λ r. ⌜ OpensSweep scan counts «quality_sums» «value_sums» «weighted_sums» sweep r ⌝ }
 {
-    answer_open(scan, counts, quality_sums, value_sums, sweep)
+    answer_open(scan, counts, quality_sums, value_sums, weighted_sums, sweep)
 }
 
 #[no_mangle]
@@ -29,8 +30,9 @@ pub extern "C" fn uldrevin_sweep_take(
     counts: &mut [u32],
     quality_sums: &mut [u32],
     value_sums: &mut [u64],
+    weighted_sums: &mut [u64],
 ) -> u32
-    ensures { λ r. ⌜ TakesRays sweep azimuths values qualities ledger marks counts «quality_sums» «value_sums» r ⌝ }
+    ensures { λ r. ⌜ TakesRays sweep azimuths values qualities ledger marks counts «quality_sums» «value_sums» «weighted_sums» r ⌝ }
 {
     answer_take(
         sweep,
@@ -42,6 +44,7 @@ pub extern "C" fn uldrevin_sweep_take(
         counts,
         quality_sums,
         value_sums,
+        weighted_sums,
     )
 }
 
@@ -51,16 +54,18 @@ pub extern "C" fn uldrevin_sweep_close(
     counts: &[u32],
     quality_sums: &[u32],
     value_sums: &[u64],
+    weighted_sums: &[u64],
     means: &mut [u16],
     cell_qualities: &mut [u8],
 ) -> u32
-    ensures { λ r. ⌜ ClosesSweep sweep counts «quality_sums» «value_sums» means «cell_qualities» r ⌝ }
+    ensures { λ r. ⌜ ClosesSweep sweep counts «quality_sums» «value_sums» «weighted_sums» means «cell_qualities» r ⌝ }
 {
     answer_close(
         sweep,
         counts,
         quality_sums,
         value_sums,
+        weighted_sums,
         means,
         cell_qualities,
     )

@@ -26,10 +26,13 @@ same-length-2 c = search needs
 same-length-3 : tie.Need-same-length-3
 same-length-3 c = search needs
 
+same-length-4 : tie.Need-same-length-4
+same-length-4 c = search needs
+
 returns : tie.Need-returns
 returns c =
     let answer-sweep-call = c .answer-sweep in
-    let told = rw (c .before .before .before .before .before .before .before .before .before .before .before .before .head-of .ensures) at (c .before .before .before .before .before .before .before .before .«open» .ensures) in
+    let told = rw (c .before .before .before .before .before .before .before .before .before .before .before .before .before .before .before .head-of .ensures) at (c .before .before .before .before .before .before .before .before .before .before .«open» .ensures) in
     record {
       the-number = answer-sweep-call .ensures .0 ∙ ap numberIn (told .the-answer) ∙ number-in _ _;
       the-lent = (λ i. record { sweep = (answer-sweep-call .ensures .1 ∙ ap (sweepLeft _) (told .the-answer) ∙ sweep-left _ _ _) i; lists = told .the-sums i }) ∙ both-left _ _ _;
@@ -45,4 +48,5 @@ answer-open-spec =
     same-length
     same-length-2
     same-length-3
+    same-length-4
     returns)

@@ -9,13 +9,13 @@ slice-aggregate-ray-ledger : tie.Need-slice-aggregate-ray-ledger
 slice-aggregate-ray-ledger c = search needs
 
 ray-ledger-requires : tie.Need-ray-ledger-requires
-ray-ledger-requires c κs = (c .before .before .before .before .before .before .before .before .pre .0, ray-span (c .before .before .before .before .before .before .before .before .pre .1) refl)
+ray-ledger-requires c κs = (c .before .before .before .before .before .before .before .before .before .pre .0, ray-span (c .before .before .before .before .before .before .before .before .before .pre .1) refl)
 
 take-out-gates-requires : tie.Need-take-out-gates-requires
 take-out-gates-requires c κs =
-    let s = c .before .before .before .before .before .before .before .before .before .before .before .before .before .before .before .before in
+    let s = c .before .before .before .before .before .before .before .before .before .before .before .before .before .before .before .before .before .before in
     let a = s .args in
-    rw (is-ray (a .survey) (a .first) (a .spacing) (a .azimuth) (a .entries .now) (c .before .before .before .before .before .before .before .ray-ledger .ensures .0)) (s .pre .2)
+    rw (is-ray (a .survey) (a .first) (a .spacing) (a .azimuth) (a .entries .now) (c .before .before .before .before .before .before .before .before .ray-ledger .ensures .0)) (s .pre .2)
 
 same-length : tie.Need-same-length
 same-length c = search needs
@@ -29,10 +29,13 @@ same-length-3 c = search needs
 same-length-4 : tie.Need-same-length-4
 same-length-4 c = search needs
 
+same-length-5 : tie.Need-same-length-5
+same-length-5 c = search needs
+
 returns : tie.Need-returns
 returns c =
-    let a = c .before .before .before .before .before .before .before .before .before .before .before .before .before .before .before .before .before .before .before .before .before .before .before .args in
-    rw (← is-ray (a .survey) (a .first) (a .spacing) (a .azimuth) (a .entries .now) (c .before .before .before .before .before .before .before .before .before .before .before .before .before .before .ray-ledger .ensures .0)) (c .before .before .before .before .before .before .take-out-gates .ensures)
+    let a = c .before .before .before .before .before .before .before .before .before .before .before .before .before .before .before .before .before .before .before .before .before .before .before .before .before .before .before .args in
+    rw (← is-ray (a .survey) (a .first) (a .spacing) (a .azimuth) (a .entries .now) (c .before .before .before .before .before .before .before .before .before .before .before .before .before .before .before .before .before .ray-ledger .ensures .0)) (c .before .before .before .before .before .before .before .before .take-out-gates .ensures)
 
 pub take-out-ray-spec : {M : Type 1} → statement M
 take-out-ray-spec =
@@ -45,4 +48,5 @@ take-out-ray-spec =
     same-length-2
     same-length-3
     same-length-4
+    same-length-5
     returns)

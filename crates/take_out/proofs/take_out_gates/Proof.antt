@@ -3,23 +3,23 @@
 use Prim.Native.Nat.{_-_, _≤_}
 use native.Mathlib.Omega.{arith}
 use lib.ListN.{length}
-use Rattle.take_out.proofs.SumsUndone.{Undone, undone-none, undone-no-cell, undone-unmeasured, count-there, quality-there, value-there, undone-measured, undone-all}
+use Rattle.take_out.proofs.SumsUndone.{Undone, undone-none, undone-no-cell, undone-unmeasured, count-there, quality-there, value-there, weighted-there, undone-measured, undone-all}
 use borrow.Author.Needs.{needs}
 use Rattle.take_out.proofs.take_out_gates.Statement.{statement}
 use Rattle.take_out.proofs.take_out_gates.Tie as tie
 
 abbrev Inv-loop : tie.InvT-loop
-Inv-loop weighting ledger values qualities counts₀ quality-sums₀ value-sums₀ k₀ counts quality-sums value-sums k =
-    (k ≤ length ledger) × Undone weighting ledger values qualities k
-    (record { counts = counts₀; qualitySums = quality-sums₀; valueSums = value-sums₀ })
-    (record { counts = counts; qualitySums = quality-sums; valueSums = value-sums })
+Inv-loop ledger values qualities counts₀ quality-sums₀ value-sums₀ weighted-sums₀ k₀ counts quality-sums value-sums weighted-sums k =
+    (k ≤ length ledger) × Undone ledger values qualities k
+    (record { counts = counts₀; qualitySums = quality-sums₀; valueSums = value-sums₀; weightedSums = weighted-sums₀ })
+    (record { counts = counts; qualitySums = quality-sums; valueSums = value-sums; weightedSums = weighted-sums })
 
 abbrev μ-loop : tie.MeasureT-loop
-μ-loop weighting ledger values qualities counts₀ quality-sums₀ value-sums₀ k₀ counts quality-sums value-sums k =
+μ-loop ledger values qualities counts₀ quality-sums₀ value-sums₀ weighted-sums₀ k₀ counts quality-sums value-sums weighted-sums k =
     k
 
 loop-holds : tie.Need-loop-holds Inv-loop μ-loop
-loop-holds c = (search needs, undone-none (c .before .before .before .before .before .before .pre))
+loop-holds c = (search needs, undone-none (c .before .before .before .before .before .before .before .pre))
 
 sub-k : tie.Need-sub-k Inv-loop μ-loop
 sub-k c = search needs
@@ -93,11 +93,11 @@ mul-value-sums c = search needs
 slice-read-value-sums : tie.Need-slice-read-value-sums Inv-loop μ-loop
 slice-read-value-sums c = search needs
 
-weigh-requires : tie.Need-weigh-requires Inv-loop μ-loop
-weigh-requires c κs = search needs
+echo-of-requires : tie.Need-echo-of-requires Inv-loop μ-loop
+echo-of-requires c κs = search needs
 
 sub-value-sums : tie.Need-sub-value-sums Inv-loop μ-loop
-sub-value-sums c = omega (arith, value-there (c .before .before .before .before .before .before .before .before .before .before .loop .inv .1) _ (omega arith) (omega arith) (c .before .before .before .before .if2 .left), c .weigh .ensures)
+sub-value-sums c = omega (arith, value-there (c .before .before .before .before .before .before .before .before .before .before .loop .inv .1) _ (omega arith) (omega arith) (c .before .before .before .before .if2 .left), c .echo-of .ensures)
 
 mul-value-sums-2 : tie.Need-mul-value-sums-2 Inv-loop μ-loop
 mul-value-sums-2 c = search needs
@@ -105,11 +105,29 @@ mul-value-sums-2 c = search needs
 slice-write-value-sums : tie.Need-slice-write-value-sums Inv-loop μ-loop
 slice-write-value-sums c = search needs
 
+mul-weighted-sums : tie.Need-mul-weighted-sums Inv-loop μ-loop
+mul-weighted-sums c = search needs
+
+slice-read-weighted-sums : tie.Need-slice-read-weighted-sums Inv-loop μ-loop
+slice-read-weighted-sums c = search needs
+
+weighted-echo-requires : tie.Need-weighted-echo-requires Inv-loop μ-loop
+weighted-echo-requires c κs = search needs
+
+sub-weighted-sums : tie.Need-sub-weighted-sums Inv-loop μ-loop
+sub-weighted-sums c = omega (arith, weighted-there (c .before .before .before .before .before .before .before .before .before .before .before .before .loop .inv .1) _ (omega arith) (omega arith) (c .before .before .before .before .before .before .if2 .left), c .weighted-echo .ensures)
+
+mul-weighted-sums-2 : tie.Need-mul-weighted-sums-2 Inv-loop μ-loop
+mul-weighted-sums-2 c = search needs
+
+slice-write-weighted-sums : tie.Need-slice-write-weighted-sums Inv-loop μ-loop
+slice-write-weighted-sums c = search needs
+
 loop-less-3 : tie.Need-loop-less-3 Inv-loop μ-loop
 loop-less-3 c = search needs
 
 loop-again-3 : tie.Need-loop-again-3 Inv-loop μ-loop
-loop-again-3 c = (omega arith, undone-measured (c .before .before .before .before .before .before .before .before .before .before .loop .inv .1) _ (omega arith) (omega arith) (c .before .before .before .before .if2 .left) (c .weigh .ensures))
+loop-again-3 c = (omega arith, undone-measured (c .before .before .before .before .before .before .before .before .before .before .before .before .loop .inv .1) _ (omega arith) (omega arith) (c .before .before .before .before .before .before .if2 .left) (c .before .before .echo-of .ensures) (c .weighted-echo .ensures))
 
 same-length : tie.Need-same-length Inv-loop μ-loop
 same-length c = search needs
@@ -119,6 +137,9 @@ same-length-2 c = search needs
 
 same-length-3 : tie.Need-same-length-3 Inv-loop μ-loop
 same-length-3 c = search needs
+
+same-length-4 : tie.Need-same-length-4 Inv-loop μ-loop
+same-length-4 c = search needs
 
 returns : tie.Need-returns Inv-loop μ-loop
 returns c = undone-all (c .before .loop .inv .1) (omega arith)
@@ -154,13 +175,20 @@ take-out-gates-spec =
     slice-write-quality-sums
     mul-value-sums
     slice-read-value-sums
-    weigh-requires
+    echo-of-requires
     sub-value-sums
     mul-value-sums-2
     slice-write-value-sums
+    mul-weighted-sums
+    slice-read-weighted-sums
+    weighted-echo-requires
+    sub-weighted-sums
+    mul-weighted-sums-2
+    slice-write-weighted-sums
     loop-less-3
     loop-again-3
     same-length
     same-length-2
     same-length-3
+    same-length-4
     returns)

@@ -11,31 +11,31 @@ use Rattle.group_sums.proofs.undo.take_out_rays.Statement.{statement}
 use Rattle.group_sums.proofs.undo.take_out_rays.Tie as tie
 
 abbrev Inv-loop : tie.InvT-loop
-Inv-loop survey weighting first spacing entries₀ azimuths values qualities rays counts₀ quality-sums₀ value-sums₀ gates ray₀ entries counts quality-sums value-sums ray =
+Inv-loop survey first spacing entries₀ azimuths values qualities rays counts₀ quality-sums₀ value-sums₀ weighted-sums₀ gates ray₀ entries counts quality-sums value-sums weighted-sums ray =
     (ray ≤ rays) × (length entries ≡ length entries₀)
-    × RaysUndone weighting (groupLedger survey first spacing (length entries₀) azimuths) values qualities (rays * length entries₀) (ray * length entries₀)
-    (record { counts = counts₀; qualitySums = quality-sums₀; valueSums = value-sums₀ })
-    (record { counts = counts; qualitySums = quality-sums; valueSums = value-sums })
+    × RaysUndone (groupLedger survey first spacing (length entries₀) azimuths) values qualities (rays * length entries₀) (ray * length entries₀)
+    (record { counts = counts₀; qualitySums = quality-sums₀; valueSums = value-sums₀; weightedSums = weighted-sums₀ })
+    (record { counts = counts; qualitySums = quality-sums; valueSums = value-sums; weightedSums = weighted-sums })
 
 abbrev μ-loop : tie.MeasureT-loop
-μ-loop survey weighting first spacing entries₀ azimuths values qualities rays counts₀ quality-sums₀ value-sums₀ gates ray₀ entries counts quality-sums value-sums ray =
+μ-loop survey first spacing entries₀ azimuths values qualities rays counts₀ quality-sums₀ value-sums₀ weighted-sums₀ gates ray₀ entries counts quality-sums value-sums weighted-sums ray =
     ray
 
 loop-holds : tie.Need-loop-holds Inv-loop μ-loop
-loop-holds c = (search needs, refl, none-undone (c .before .before .before .before .before .before .before .pre .3))
+loop-holds c = (search needs, refl, none-undone (c .before .before .before .before .before .before .before .before .pre .3))
 
 sub-ray : tie.Need-sub-ray Inv-loop μ-loop
 sub-ray c = search needs
 
 mul-start : tie.Need-mul-start Inv-loop μ-loop
 mul-start c =
-    let a = c .before .before .before .before .before .before .before .before .before .args in
-    omega (arith, ray-end (c .before .loop .ray - 1) (length (a .azimuths .now)) (length (a .entries .now)) (omega arith), c .before .before .before .before .before .before .before .before .before .pre .1 .values-length, c .before .before .before .before .before .before .before .before .before .good .1 .1 .1 .1 .1 .1 .0 .0)
+    let a = c .before .before .before .before .before .before .before .before .before .before .args in
+    omega (arith, ray-end (c .before .loop .ray - 1) (length (a .azimuths .now)) (length (a .entries .now)) (omega arith), c .before .before .before .before .before .before .before .before .before .before .pre .1 .values-length, c .before .before .before .before .before .before .before .before .before .before .good .1 .1 .1 .1 .1 .0 .0)
 
 add-end : tie.Need-add-end Inv-loop μ-loop
 add-end c =
-    let a = c .before .before .before .before .before .before .before .before .before .args in
-    omega (arith, ray-end (c .before .loop .ray - 1) (length (a .azimuths .now)) (length (a .entries .now)) (omega arith), c .before .before .before .before .before .before .before .before .before .pre .1 .values-length, c .before .before .before .before .before .before .before .before .before .good .1 .1 .1 .1 .1 .1 .0 .0)
+    let a = c .before .before .before .before .before .before .before .before .before .before .args in
+    omega (arith, ray-end (c .before .loop .ray - 1) (length (a .azimuths .now)) (length (a .entries .now)) (omega arith), c .before .before .before .before .before .before .before .before .before .before .pre .1 .values-length, c .before .before .before .before .before .before .before .before .before .before .good .1 .1 .1 .1 .1 .0 .0)
 
 mul-take-out-ray : tie.Need-mul-take-out-ray Inv-loop μ-loop
 mul-take-out-ray c = search needs
@@ -45,8 +45,8 @@ shared-slice-read-take-out-ray c = search needs
 
 mul-take-out-ray-2 : tie.Need-mul-take-out-ray-2 Inv-loop μ-loop
 mul-take-out-ray-2 c =
-    let a = c .before .before .before .before .before .before .before .before .before .before .before .args in
-    omega (arith, ray-end (c .before .before .before .loop .ray - 1) (length (a .azimuths .now)) (length (a .entries .now)) (omega arith), c .before .before .before .before .before .before .before .before .before .before .before .pre .1 .values-length, c .before .before .before .before .before .before .before .before .before .before .before .good .1 .1 .1 .1 .1 .1 .0 .0, c .before .before .before .before .before .before .before .before .before .before .before .good .1 .1 .1 .1 .1 .1 .0 .1)
+    let a = c .before .before .before .before .before .before .before .before .before .before .before .before .args in
+    omega (arith, ray-end (c .before .before .before .loop .ray - 1) (length (a .azimuths .now)) (length (a .entries .now)) (omega arith), c .before .before .before .before .before .before .before .before .before .before .before .before .pre .1 .values-length, c .before .before .before .before .before .before .before .before .before .before .before .before .good .1 .1 .1 .1 .1 .0 .0, c .before .before .before .before .before .before .before .before .before .before .before .before .good .1 .1 .1 .1 .1 .0 .1)
 
 sub-take-out-ray : tie.Need-sub-take-out-ray Inv-loop μ-loop
 sub-take-out-ray c = search needs
@@ -56,8 +56,8 @@ part-take-out-ray-start c = search needs
 
 part-take-out-ray-end : tie.Need-part-take-out-ray-end Inv-loop μ-loop
 part-take-out-ray-end c =
-    let a = c .before .before .before .before .before .before .before .before .before .before .before .args in
-    omega (arith, ray-end (c .before .before .before .loop .ray - 1) (length (a .azimuths .now)) (length (a .entries .now)) (omega arith), c .before .before .before .before .before .before .before .before .before .before .before .pre .1 .values-length)
+    let a = c .before .before .before .before .before .before .before .before .before .before .before .before .args in
+    omega (arith, ray-end (c .before .before .before .loop .ray - 1) (length (a .azimuths .now)) (length (a .entries .now)) (omega arith), c .before .before .before .before .before .before .before .before .before .before .before .before .pre .1 .values-length)
 
 sub-take-out-ray-2 : tie.Need-sub-take-out-ray-2 Inv-loop μ-loop
 sub-take-out-ray-2 c = search needs
@@ -67,28 +67,28 @@ part-take-out-ray-start-2 c = search needs
 
 part-take-out-ray-end-2 : tie.Need-part-take-out-ray-end-2 Inv-loop μ-loop
 part-take-out-ray-end-2 c =
-    let a = c .before .before .before .before .before .before .before .before .before .before .before .before .args in
-    omega (arith, ray-end (c .before .before .before .before .loop .ray - 1) (length (a .azimuths .now)) (length (a .entries .now)) (omega arith), c .before .before .before .before .before .before .before .before .before .before .before .before .pre .1 .qualities-length)
+    let a = c .before .before .before .before .before .before .before .before .before .before .before .before .before .args in
+    omega (arith, ray-end (c .before .before .before .before .loop .ray - 1) (length (a .azimuths .now)) (length (a .entries .now)) (omega arith), c .before .before .before .before .before .before .before .before .before .before .before .before .before .pre .1 .qualities-length)
 
 take-out-ray-requires : tie.Need-take-out-ray-requires Inv-loop μ-loop
 take-out-ray-requires c κs =
-    let a = c .before .before .before .before .before .before .before .before .before .before .before .before .before .before .before .before .args in
-    let l = c .before .before .before .before .before .before .before .before .loop .inv in
+    let a = c .before .before .before .before .before .before .before .before .before .before .before .before .before .before .before .before .before .before .args in
+    let l = c .before .before .before .before .before .before .before .before .before .loop .inv in
     let gates = length (a .entries .now) in
-    let ray = c .before .before .before .before .before .before .before .before .loop .ray - 1 in
-    let room = undone-room (a .survey) (a .first) (a .spacing) gates (a .azimuths .now) (a .values .now) (a .qualities .now) ray _ _ (omega arith) refl refl (l .2) (next-start _ ray gates (omega arith)) (c .before .before .before .before .before .before .before .before .before .before .before .before .before .before .before .before .pre .1) refl (l .1) in
-    (c .before .before .before .before .before .before .before .before .before .before .before .before .before .before .before .before .pre .0, room, rw (l .1) (last-added (a .survey) (a .first) (a .spacing) gates (a .azimuths .now) (a .values .now) (a .qualities .now) ray _ _ (omega arith) refl refl (l .2) (next-start _ ray gates (omega arith)) room (l .1)))
+    let ray = c .before .before .before .before .before .before .before .before .before .loop .ray - 1 in
+    let room = undone-room (a .survey) (a .first) (a .spacing) gates (a .azimuths .now) (a .values .now) (a .qualities .now) ray _ _ (omega arith) refl refl (l .2) (next-start _ ray gates (omega arith)) (c .before .before .before .before .before .before .before .before .before .before .before .before .before .before .before .before .before .before .pre .1) refl (l .1) in
+    (c .before .before .before .before .before .before .before .before .before .before .before .before .before .before .before .before .before .before .pre .0, room, rw (l .1) (last-added (a .survey) (a .first) (a .spacing) gates (a .azimuths .now) (a .values .now) (a .qualities .now) ray _ _ (omega arith) refl refl (l .2) (next-start _ ray gates (omega arith)) room (l .1)))
 
 loop-less : tie.Need-loop-less Inv-loop μ-loop
 loop-less c = search needs
 
 loop-again : tie.Need-loop-again Inv-loop μ-loop
 loop-again c =
-    let a = c .before .before .before .before .before .before .before .before .before .before .before .before .before .before .before .before .before .before .before .before .before .before .before .before .before .args in
-    let l = c .before .before .before .before .before .before .before .before .before .before .before .before .before .before .before .before .before .loop .inv in
+    let a = c .before .before .before .before .before .before .before .before .before .before .before .before .before .before .before .before .before .before .before .before .before .before .before .before .before .before .before .before .before .args in
+    let l = c .before .before .before .before .before .before .before .before .before .before .before .before .before .before .before .before .before .before .before .before .loop .inv in
     let gates = length (a .entries .now) in
-    let ray = c .before .before .before .before .before .before .before .before .before .before .before .before .before .before .before .before .before .loop .ray - 1 in
-    (omega arith, c .before .before .before .before .before .before .before .before .take-out-ray .kept .1 .1 .1 .1 .1 .0 ∙ l .1, last-undone (a .survey) (a .first) (a .spacing) gates (a .azimuths .now) (a .values .now) (a .qualities .now) ray _ _ (omega arith) refl refl (l .2) (next-start _ ray gates (omega arith)) (rw (l .1) at (c .before .before .before .before .before .before .before .before .take-out-ray .ensures)))
+    let ray = c .before .before .before .before .before .before .before .before .before .before .before .before .before .before .before .before .before .before .before .before .loop .ray - 1 in
+    (omega arith, c .before .before .before .before .before .before .before .before .before .before .take-out-ray .kept .1 .1 .1 .1 .0 ∙ l .1, last-undone (a .survey) (a .first) (a .spacing) gates (a .azimuths .now) (a .values .now) (a .qualities .now) ray _ _ (omega arith) refl refl (l .2) (next-start _ ray gates (omega arith)) (rw (l .1) at (c .before .before .before .before .before .before .before .before .before .before .take-out-ray .ensures)))
 
 same-length : tie.Need-same-length Inv-loop μ-loop
 same-length c = search needs
@@ -101,6 +101,9 @@ same-length-3 c = search needs
 
 same-length-4 : tie.Need-same-length-4 Inv-loop μ-loop
 same-length-4 c = search needs
+
+same-length-5 : tie.Need-same-length-5 Inv-loop μ-loop
+same-length-5 c = search needs
 
 returns : tie.Need-returns Inv-loop μ-loop
 returns c = all-undone (c .before .loop .inv .2) (no-rays _ _ (omega arith))
@@ -131,4 +134,5 @@ take-out-rays-spec =
     same-length-2
     same-length-3
     same-length-4
+    same-length-5
     returns)

@@ -21,8 +21,14 @@ returns-2 c =
 returns-3 : tie.Need-returns-3
 unfolding sumsAccepted
 returns-3 c =
-    let cells-of-call = c .before .before .before .before .before .cells-of in
-    rw (exact-length (c .before .before .before .if1 .left) (cells-of-call .ensures), exact-length (c .before .if2 .left) (cells-of-call .ensures), cells-of-call .ensures)
+    let cells-of-call = c .before .before .before .before .before .before .cells-of in
+    rw (exact-length (c .before .before .before .before .if1 .left) (cells-of-call .ensures), exact-length (c .before .before .if2 .left) (cells-of-call .ensures), other-length (c .if3 .taken) (cells-of-call .ensures))
+
+returns-4 : tie.Need-returns-4
+unfolding sumsAccepted
+returns-4 c =
+    let cells-of-call = c .before .before .before .before .before .before .before .cells-of in
+    rw (exact-length (c .before .before .before .before .before .if1 .left) (cells-of-call .ensures), exact-length (c .before .before .before .if2 .left) (cells-of-call .ensures), exact-length (c .before .if3 .left) (cells-of-call .ensures), cells-of-call .ensures)
 
 pub sums-accepted-spec : {M : Type 1} → statement M
-sums-accepted-spec = tie.close (tie.spec cells-of-requires returns returns-2 returns-3)
+sums-accepted-spec = tie.close (tie.spec cells-of-requires returns returns-2 returns-3 returns-4)

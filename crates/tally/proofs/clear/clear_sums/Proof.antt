@@ -13,6 +13,9 @@ clear32-requires-2 c κs = search needs
 clear64-requires : tie.Need-clear64-requires
 clear64-requires c κs = search needs
 
+clear64-requires-2 : tie.Need-clear64-requires-2
+clear64-requires-2 c κs = search needs
+
 same-length : tie.Need-same-length
 same-length c = search needs
 
@@ -22,12 +25,16 @@ same-length-2 c = search needs
 same-length-3 : tie.Need-same-length-3
 same-length-3 c = search needs
 
+same-length-4 : tie.Need-same-length-4
+same-length-4 c = search needs
+
 returns : tie.Need-returns
 unfolding cleared
-returns c i = record {
-  counts = c .before .before .before .before .before .before .before .before .before .before .clear32 .ensures i;
-  qualitySums = c .before .before .before .before .before .before .clear322 .ensures i;
-  valueSums = c .before .before .clear64 .ensures i;
+returns c = λ i. record {
+  counts = c .before .before .before .before .before .before .before .before .before .before .before .before .before .before .clear32 .ensures i;
+  qualitySums = c .before .before .before .before .before .before .before .before .before .before .clear322 .ensures i;
+  valueSums = c .before .before .before .before .before .before .clear64 .ensures i;
+  weightedSums = c .before .before .clear642 .ensures i;
 }
 
 pub clear-sums-spec : {M : Type 1} → statement M
@@ -37,7 +44,9 @@ clear-sums-spec =
     clear32-requires
     clear32-requires-2
     clear64-requires
+    clear64-requires-2
     same-length
     same-length-2
     same-length-3
+    same-length-4
     returns)

@@ -1,2 +1,0 @@
-pub mod FilledCells
-pub mod AcceptedRemap

@@ -1,0 +1,7 @@
+// The weighting in which cells are published.
+
+// Each measured gate alike, or by its quality.
+pub enum Weighting {
+    Plain,
+    ByQuality,
+}
