@@ -41,7 +41,7 @@ class MarkedGate(NamedTuple):
 
 
 def measured(scan):
-    """Whether each gate is measured. Values come flat or as a list of rays, as remap takes them."""
+    """Whether each gate is measured. Values come flat or as a list of rays, as tally takes them."""
     values = uldrevin.flat(scan.values) if hasattr(scan.values, "tolist") else scan.values
     rays = values if hasattr(values[0], "__len__") else [values]
     return [value != uldrevin.NOT_MEASURED for ray in rays for value in ray]
@@ -54,10 +54,15 @@ def corner_and_side(grid):
     return grid.x, grid.y, grid.side
 
 
-def marked_measured(scan, remapped):
+def tally_of(scan):
+    """The tally of a uldrevin.Scan, whose weighting plays no part."""
+    return uldrevin.tally(*scan[:2], *scan[3:])
+
+
+def marked_measured(scan, tally):
     """The marked measured gates."""
     corner_x, corner_y, side = corner_and_side(scan.grid)
-    marks = uldrevin.flat(remapped.marks)
+    marks = uldrevin.flat(tally.marks)
     for number, (mark, is_measured) in enumerate(zip(marks, measured(scan))):
         if mark == 1 and is_measured:
             ray, gate = divmod(number, len(marks) // len(scan.azimuths))
@@ -75,13 +80,13 @@ def cells_near(grid, gate):
 
 def cell_counts(scan):
     """The Counts of each cell of a uldrevin.Scan, row by row from the south-west."""
-    remapped = uldrevin.remap(*scan)
-    counts = uldrevin.flat(remapped.counts)
+    tally = tally_of(scan)
+    counts = uldrevin.flat(tally.sums.counts)
     least, open_to = [0] * len(counts), [0] * len(counts)
-    for cell, mark, is_measured in zip(uldrevin.flat(remapped.ledger), uldrevin.flat(remapped.marks), measured(scan)):
+    for cell, mark, is_measured in zip(uldrevin.flat(tally.ledger), uldrevin.flat(tally.marks), measured(scan)):
         if cell != uldrevin.OUTSIDE and mark == 0 and is_measured:
             least[cell] += 1
-    for gate in marked_measured(scan, remapped):
+    for gate in marked_measured(scan, tally):
         for cell in cells_near(scan.grid, gate):
             open_to[cell] += 1
     return [Counts(count, fewest, fewest + more) for count, fewest, more in zip(counts, least, open_to)]
@@ -97,7 +102,7 @@ def print_counts(scan):
 def print_gates(scan, cell):
     """The marked measured gates that leave the count of a cell open."""
     print("ray gate x y column row")
-    for gate in marked_measured(scan, uldrevin.remap(*scan)):
+    for gate in marked_measured(scan, tally_of(scan)):
         if cell in cells_near(scan.grid, gate):
             print(*gate)
 

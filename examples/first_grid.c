@@ -17,7 +17,7 @@ struct scan {
 
 struct grid {
     uint32_t *ledger, *counts, *quality_sums;
-    uint64_t *value_sums;
+    uint64_t *value_sums, *weighted_sums;
     uint16_t *means;
     uint8_t *marks, *cell_qualities;
 };
@@ -54,7 +54,7 @@ static uint32_t read_scan(const uint8_t *record, size_t length, struct scan *sca
     return uldrevin_record_read(record, length, &scan->head, scan->azimuths, rays, scan->values, gates, scan->qualities, gates);
 }
 
-static uint32_t remap(const struct scan *scan, struct grid *grid)
+static uint32_t tally(const struct scan *scan, struct grid *grid)
 {
     size_t rays = (size_t)scan->head.rays, gates = gates_of(scan), cells = cells_of(scan);
     grid->ledger = list(gates, sizeof *grid->ledger);
@@ -62,11 +62,20 @@ static uint32_t remap(const struct scan *scan, struct grid *grid)
     grid->counts = list(cells, sizeof *grid->counts);
     grid->quality_sums = list(cells, sizeof *grid->quality_sums);
     grid->value_sums = list(cells, sizeof *grid->value_sums);
+    grid->weighted_sums = list(cells, sizeof *grid->weighted_sums);
+    return uldrevin_tally(&scan->head, scan->azimuths, rays, scan->values, gates, scan->qualities, gates,
+                          grid->ledger, gates, grid->marks, gates, grid->counts, cells, grid->quality_sums, cells,
+                          grid->value_sums, cells, grid->weighted_sums, cells);
+}
+
+/* In the weighting that the record names. */
+static uint32_t publish(const struct scan *scan, struct grid *grid)
+{
+    size_t cells = cells_of(scan);
     grid->means = list(cells, sizeof *grid->means);
     grid->cell_qualities = list(cells, sizeof *grid->cell_qualities);
-    return uldrevin_remap(&scan->head, scan->azimuths, rays, scan->values, gates, scan->qualities, gates,
-                          grid->ledger, gates, grid->marks, gates, grid->counts, cells, grid->quality_sums, cells,
-                          grid->value_sums, cells, grid->means, cells, grid->cell_qualities, cells);
+    return uldrevin_publish(scan->head.weighting, grid->counts, cells, grid->quality_sums, cells, grid->value_sums, cells,
+                            grid->weighted_sums, cells, grid->means, cells, grid->cell_qualities, cells);
 }
 
 static size_t placed_in(const struct scan *scan, const struct grid *grid)
@@ -107,7 +116,9 @@ int main(void)
     size_t length = fread(record, 1, sizeof record, stdin);
     uint32_t refusal = read_scan(record, length, &scan);
     if (refusal == 0)
-        refusal = remap(&scan, &grid);
+        refusal = tally(&scan, &grid);
+    if (refusal == 0)
+        refusal = publish(&scan, &grid);
     if (refusal != 0) {
         printf("refused %" PRIu32 "\n", refusal);
         return 1;

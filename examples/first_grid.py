@@ -10,8 +10,8 @@ sys.path.insert(0, str(Path(__file__).resolve().parent.parent / "bindings" / "py
 import uldrevin  # noqa: E402
 
 
-def print_sheet(grid, gates, remapped):
-    counts, means, qualities = map(uldrevin.flat, (remapped.counts, remapped.means, remapped.cell_qualities))
+def print_sheet(grid, gates, counts, cells):
+    counts, means, qualities = map(uldrevin.flat, (counts, *cells))
     print("grid", grid.columns, grid.rows)
     print("gates", gates, "placed", sum(counts))
     for cell, count in enumerate(counts):
@@ -31,9 +31,10 @@ def main():
     except uldrevin.Refusal as refusal:
         print("refused", refusal.number)
         return 1
-    remapped = uldrevin.remap(*scan)
-    ledger, marks = uldrevin.flat(remapped.ledger), uldrevin.flat(remapped.marks)
-    print_sheet(scan.grid, len(ledger), remapped)
+    tally = uldrevin.tally(scan.site, scan.grid, scan.first, scan.spacing, scan.azimuths, scan.values, scan.qualities)
+    cells = uldrevin.publish(scan.weighting, *tally.sums)
+    ledger, marks = uldrevin.flat(tally.ledger), uldrevin.flat(tally.marks)
+    print_sheet(scan.grid, len(ledger), tally.sums.counts, cells)
     print_ledger(len(ledger) // len(scan.azimuths), ledger, marks)
     return 0
 

@@ -127,7 +127,7 @@ def gate_line(scan, place):
 def ledger_lines(scan, remapped, cell):
     """The gates of the cell, and how its mean and quality come from them."""
     places = [place for place, entry in enumerate(flat(remapped.ledger)) if entry == cell]
-    count, quality_sum, value_sum, mean, quality = (flat(cells)[cell] for cells in remapped[2:])
+    count, quality_sum, _, weighted_sum, mean, quality = (flat(cells)[cell] for cells in remapped[2:])
     return [
         f"Column {cell % SIDE_CELLS}, row {cell // SIDE_CELLS}: ledger entry {cell}",
         "",
@@ -136,9 +136,9 @@ def ledger_lines(scan, remapped, cell):
         "",
         f"count           {count:>23}",
         f"quality sum     {quality_sum:>23}",
-        f"sum of products {value_sum:>23}",
+        f"sum of products {weighted_sum:>23}",
         "",
-        f"mean    = floor({value_sum} / {quality_sum}) = {mean}",
+        f"mean    = floor({weighted_sum} / {quality_sum}) = {mean}",
         f"quality = floor({quality_sum} / {count}) = {quality}",
         "",
         f"{NO_ECHO} is no echo and counts as 0;",

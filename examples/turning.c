@@ -17,7 +17,7 @@ struct scan {
 
 struct grid {
     uint32_t *ledger, *counts, *quality_sums;
-    uint64_t *value_sums;
+    uint64_t *value_sums, *weighted_sums;
     uint16_t *means;
     uint8_t *marks, *cell_qualities;
 };
@@ -54,17 +54,20 @@ static uint32_t feed(const struct scan *scan, struct grid *grid)
     grid->counts = list(cells, sizeof *grid->counts);
     grid->quality_sums = list(cells, sizeof *grid->quality_sums);
     grid->value_sums = list(cells, sizeof *grid->value_sums);
+    grid->weighted_sums = list(cells, sizeof *grid->weighted_sums);
     grid->means = list(cells, sizeof *grid->means);
     grid->cell_qualities = list(cells, sizeof *grid->cell_qualities);
 
-    uint32_t refusal = uldrevin_sweep_open(&scan->head, grid->counts, cells, grid->quality_sums, cells, grid->value_sums, cells, &sweep);
+    uint32_t refusal = uldrevin_sweep_open(&scan->head, grid->counts, cells, grid->quality_sums, cells, grid->value_sums, cells,
+                                           grid->weighted_sums, cells, &sweep);
     for (size_t ray = 0; ray < rays && refusal == 0; ray++)
         refusal = uldrevin_sweep_take(&sweep, scan->azimuths + ray, 1, scan->values + ray * gates, gates,
                                       scan->qualities + ray * gates, gates, grid->ledger, rays * gates, grid->marks, rays * gates,
-                                      grid->counts, cells, grid->quality_sums, cells, grid->value_sums, cells);
+                                      grid->counts, cells, grid->quality_sums, cells, grid->value_sums, cells,
+                                      grid->weighted_sums, cells);
     if (refusal == 0)
         refusal = uldrevin_sweep_close(&sweep, grid->counts, cells, grid->quality_sums, cells, grid->value_sums, cells,
-                                       grid->means, cells, grid->cell_qualities, cells);
+                                       grid->weighted_sums, cells, grid->means, cells, grid->cell_qualities, cells);
     return refusal;
 }
 

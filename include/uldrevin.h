@@ -2,10 +2,10 @@
  * Uldrevin: radar gates to cells of the American HRAP mesh or the German RADOLAN raster, in whole numbers.
  *
  * Link with target/staticlib/libuldrevin.a or target/libuldrevin.so, which `make library` builds for x86-64 Linux. Each function here is
- * proved to follow the rules ("document 01", and "document 02" for a sweep and the mark) for every number that its parameters, structs and
- * lists can hold, where the pointers are as said under "Pointers"; docs/STATEMENTS.md lists what is proved. A wider number that is passed
- * for a narrower one, such as one of 64 bits for the number of a field, is cut by C before the call, and the answer is that of what is
- * left.
+ * proved to follow the rules ("document 01", and "document 02" for a sweep, the mark and publishing apart from the tally) for every number
+ * that its parameters, structs and lists can hold, where the pointers are as said under "Pointers"; docs/STATEMENTS.md lists what is
+ * proved. A wider number that is passed for a narrower one, such as one of 64 bits for the number of a field, is cut by C before the call,
+ * and the answer is that of what is left.
  *
  * Units. Angles are ten-thousandths of a degree, lengths are centimetres. Azimuths are clockwise from north, longitudes east positive.
  *
@@ -57,7 +57,7 @@ extern "C" {
 #define ULDREVIN_NO_ECHO UINT16_C(65534)
 /* The value of a gate that was not measured: it contributes nothing. */
 #define ULDREVIN_NOT_MEASURED UINT16_C(65535)
-/* The mean of a cell whose divisor is 0. */
+/* The mean of a cell whose divisor is 0, or whose sums give more than 65,533, as those of a tally never do. */
 #define ULDREVIN_NO_MEAN UINT16_C(65535)
 
 /* The sine and the cosine of any angle, times 2^30. */
@@ -95,7 +95,7 @@ struct uldrevin_scan {
     int64_t first;   /* 0 to 46,000,000, which the last centre does not exceed either, else refused by 3 */
     int64_t spacing; /* 1 to 1,000,000, else refused by 3 */
     struct uldrevin_grid grid;
-    int64_t weighting; /* 0 plain, any other number by quality; 0 or 1 where it is written */
+    int64_t weighting; /* 0 plain, any other number by quality, for a record and for closing a sweep; 0 or 1 where it is written */
 };
 
 /*
@@ -112,7 +112,7 @@ uint32_t uldrevin_place(const struct uldrevin_site *site, const struct uldrevin_
                         uint32_t *cell, int64_t *x, int64_t *y, uint8_t *mark);
 
 /*
- * Remaps a whole scan. In come, ray by ray:
+ * Tallies a whole scan. scan.weighting plays no part in it, and the sums serve both weightings of uldrevin_publish. In come, ray by ray:
  *   azimuths        one a ray, in any order; equal ones may occur
  *   values          one a gate, rays x gates
  *   qualities       one a gate, rays x gates, each 0 to 100
@@ -121,12 +121,11 @@ uint32_t uldrevin_place(const struct uldrevin_site *site, const struct uldrevin_
  *   marks           one a gate, rays x gates bytes: its mark, 1 or 0, as uldrevin_place gives it; measured or not
  *   counts          one a cell, columns x rows: the measured gates in it
  *   quality_sums    one a cell: the sum of their qualities
- *   value_sums      one a cell: the sum of their values, each times its quality where weighted by quality
- *   means           one a cell: the value sum by the count, or by the quality sum; never rounded upwards; ULDREVIN_NO_MEAN for divisor 0
- *   cell_qualities  one a cell: the quality sum by the count, 0 for an empty cell
+ *   value_sums      one a cell: the sum of their values
+ *   weighted_sums   one a cell: the sum of their values, each times its quality
  * Refusals: 1 to 8.
  */
-uint32_t uldrevin_remap(const struct uldrevin_scan *scan,
+uint32_t uldrevin_tally(const struct uldrevin_scan *scan,
                         const uint32_t *azimuths, size_t azimuths_length,
                         const uint16_t *values, size_t values_length,
                         const uint8_t *qualities, size_t qualities_length,
@@ -135,15 +134,33 @@ uint32_t uldrevin_remap(const struct uldrevin_scan *scan,
                         uint32_t *counts, size_t counts_length,
                         uint32_t *quality_sums, size_t quality_sums_length,
                         uint64_t *value_sums, size_t value_sums_length,
-                        uint16_t *means, size_t means_length,
-                        uint8_t *cell_qualities, size_t cell_qualities_length);
+                        uint64_t *weighted_sums, size_t weighted_sums_length);
+
+/*
+ * Publishes cells from sums. weighting: 0 plain, any other number by quality. In come counts, quality_sums, value_sums and weighted_sums,
+ * one a cell, of any number of cells, 0 too. Any sums are accepted, those of a tally or a sweep and all others. Out go; what these lists
+ * held before plays no part:
+ *   means           one a cell: plain, the value sum by the count; by quality, the weighted sum by the quality sum; never rounded upwards;
+ *                   ULDREVIN_NO_MEAN for divisor 0, and where the sums give more than 65,533
+ *   cell_qualities  one a cell, in either weighting: the quality sum by the count, never rounded upwards; 0 for count 0, and 100 where the
+ *                   sums give more than 100
+ * Refusals: 6, unless the six lists are all equally long.
+ */
+uint32_t uldrevin_publish(int64_t weighting,
+                          const uint32_t *counts, size_t counts_length,
+                          const uint32_t *quality_sums, size_t quality_sums_length,
+                          const uint64_t *value_sums, size_t value_sums_length,
+                          const uint64_t *weighted_sums, size_t weighted_sums_length,
+                          uint16_t *means, size_t means_length,
+                          uint8_t *cell_qualities, size_t cell_qualities_length);
 
 /*
  * A sweep: a scan that is fed ray by ray while the antenna turns. It is opened with the numbers of the scan, takes one ray or several at a
  * time, and is closed. Its lists are as long as those of the whole scan from the start. While a caller hands on the latest sweep and
- * untouched lists, the ledger and the marks of the rays taken, the sums, and after closing the cells, are those that uldrevin_remap gives
- * for the whole scan of these rays, however they were divided. A group of rays with one bad ray is refused whole, and the sweep goes on
- * without it.
+ * untouched lists, the ledger and the marks of the rays taken, and the sums, are those that uldrevin_tally gives for the whole scan of
+ * these rays, however they were divided, and after closing the cells are those that uldrevin_publish gives from these sums in the weighting
+ * of the scan. From the same sums uldrevin_publish gives the cells in either weighting, at any time. A group of rays with one bad ray is
+ * refused whole, and the sweep goes on without it.
  *
  * It is plain numbers, which a caller may keep, copy or alter: they are tested again at each call, and a call that is done writes them all.
  */
@@ -160,6 +177,7 @@ struct uldrevin_sweep {
  *   counts          one a cell, columns x rows: 0
  *   quality_sums    one a cell: 0
  *   value_sums      one a cell: 0
+ *   weighted_sums   one a cell: 0
  *   sweep           the scan's numbers, no ray taken, not closed
  * Refusals, in this order: 1 to 6.
  */
@@ -167,6 +185,7 @@ uint32_t uldrevin_sweep_open(const struct uldrevin_scan *scan,
                              uint32_t *counts, size_t counts_length,
                              uint32_t *quality_sums, size_t quality_sums_length,
                              uint64_t *value_sums, size_t value_sums_length,
+                             uint64_t *weighted_sums, size_t weighted_sums_length,
                              struct uldrevin_sweep *sweep);
 
 /*
@@ -180,10 +199,11 @@ uint32_t uldrevin_sweep_open(const struct uldrevin_scan *scan,
  *   marks           one a gate of all rays announced, rays x gates bytes: 1 or 0 for these rays, from taken x gates on; all others stay
  *   counts          one a cell, columns x rows: grows by the measured gates of these rays in it
  *   quality_sums    one a cell: grows by their qualities
- *   value_sums      one a cell: grows by their values, each times its quality where weighted by quality
+ *   value_sums      one a cell: grows by their values, whatever the weighting
+ *   weighted_sums   one a cell: grows by their values, each times its quality, whatever the weighting
  * Refusals, in this order: 19; 17 where these rays and those taken are more than were announced; 1 to 5 for the numbers of the sweep; 6,
- * also for no rays; 7; 8; 31, which is never given while the latest sweep and untouched lists are
- * handed on.
+ * also for no rays; 7; 8; 31 where a count or a quality sum would pass 32 bits, or a value sum or a weighted sum 64, which is never given
+ * while the latest sweep and untouched lists are handed on.
  */
 uint32_t uldrevin_sweep_take(struct uldrevin_sweep *sweep,
                              const uint32_t *azimuths, size_t azimuths_length,
@@ -193,19 +213,22 @@ uint32_t uldrevin_sweep_take(struct uldrevin_sweep *sweep,
                              uint8_t *marks, size_t marks_length,
                              uint32_t *counts, size_t counts_length,
                              uint32_t *quality_sums, size_t quality_sums_length,
-                             uint64_t *value_sums, size_t value_sums_length);
+                             uint64_t *value_sums, size_t value_sums_length,
+                             uint64_t *weighted_sums, size_t weighted_sums_length);
 
 /*
- * Closes a sweep that has taken all its rays, and publishes its cells. In come counts, quality_sums and value_sums, one a cell. Out go:
+ * Closes a sweep that has taken all its rays, and publishes its cells in the weighting with which it was opened, which stands
+ * in its scan. In come counts, quality_sums, value_sums and weighted_sums, one a cell, columns x rows. Out go:
  *   sweep           it is closed, and takes no more rays
- *   means           one a cell, as uldrevin_remap gives them; where sums that a caller has altered give more than 65,533, ULDREVIN_NO_MEAN
- *   cell_qualities  one a cell, as uldrevin_remap gives them; where such sums give more than 100, 100
+ *   means           one a cell, as uldrevin_publish gives them from these sums, also from sums that a caller has altered
+ *   cell_qualities  one a cell, as uldrevin_publish gives them
  * Refusals, in this order: 19; 17 where more rays are taken than were announced; 1 to 5 for the numbers of the sweep; 18; 6.
  */
 uint32_t uldrevin_sweep_close(struct uldrevin_sweep *sweep,
                               const uint32_t *counts, size_t counts_length,
                               const uint32_t *quality_sums, size_t quality_sums_length,
                               const uint64_t *value_sums, size_t value_sums_length,
+                              const uint64_t *weighted_sums, size_t weighted_sums_length,
                               uint16_t *means, size_t means_length,
                               uint8_t *cell_qualities, size_t cell_qualities_length);
 
@@ -231,7 +254,7 @@ uint32_t uldrevin_record_read(const uint8_t *record, size_t record_length, struc
 uint32_t uldrevin_record_field(const uint8_t *record, size_t record_length, uint32_t number, uint64_t *start, uint64_t *length);
 
 /*
- * Writes the record of a scan, given as to uldrevin_remap, into a buffer. *length: the record's bytes, which are
+ * Writes the record of a scan, given as to uldrevin_tally, into a buffer. *length: the record's bytes, which are
  * 59 + 4 x rays + 3 x rays x gates for RADOLAN and 8 fewer for HRAP. The buffer behind them stays. Refusals: 1 to 8, 15, 16.
  */
 uint32_t uldrevin_record_write(const struct uldrevin_scan *scan,

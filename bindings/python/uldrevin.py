@@ -2,19 +2,21 @@
 
 Whole numbers only. Angles are ten-thousandths of a degree, lengths are centimetres. Gates are numbered ray by ray, cells row by row
 from the south-west, so that row 0 is the southernmost. Document 01's example, two gates in the second of two cells, on the line between
-the two, and so with the mark 1:
+the two, and so with the mark 1, tallied once and published in both weightings:
 
 >>> import uldrevin
 >>> site = uldrevin.Site(latitude=600_000, longitude=-1_050_000)
 >>> grid = uldrevin.Hrap(i=400, j=932, columns=2, rows=1)
->>> remapped = uldrevin.remap(site, grid, uldrevin.BY_QUALITY, first=0, spacing=100_000,
-...                           azimuths=[0], values=[1, 7], qualities=[90, 10])
->>> uldrevin.flat(remapped.ledger), uldrevin.flat(remapped.marks)
+>>> tally = uldrevin.tally(site, grid, first=0, spacing=100_000, azimuths=[0], values=[1, 7], qualities=[90, 10])
+>>> uldrevin.flat(tally.ledger), uldrevin.flat(tally.marks)
 ([1, 1], [1, 1])
->>> [uldrevin.flat(cells)[1] for cells in (remapped.means, remapped.cell_qualities, remapped.counts)]
-[1, 50, 2]
+>>> [uldrevin.flat(sums)[1] for sums in tally.sums]  # count, quality sum, value sum, weighted sum
+[2, 100, 8, 160]
+>>> plain, by_quality = uldrevin.publish(uldrevin.PLAIN, *tally.sums), uldrevin.publish(uldrevin.BY_QUALITY, *tally.sums)
+>>> uldrevin.flat(plain.means), uldrevin.flat(by_quality.means), uldrevin.flat(by_quality.cell_qualities)
+([65535, 4], [65535, 1], [0, 50])
 
-A Sweep takes the rays of a scan one by one, or some at a time, as the antenna turns.
+`remap` does both, in one weighting. A Sweep takes the rays of a scan one by one, or some at a time, as the antenna turns.
 
 Lists that come back are numpy arrays where numpy can be imported: of shape (rays, gates) for gates and (rows, columns) for cells.
 Otherwise they are array.array, flat. `flat` makes a plain list of either.
@@ -23,6 +25,9 @@ Lists that are given may be
 - numpy arrays of exactly the dtype: azimuths uint32 of shape (rays,), values uint16 and qualities uint8 of shape (rays, gates);
 - plain lists or array.array of whole numbers; values and qualities either flat, ray by ray, with as many rays as azimuths, or a list
   of rays.
+
+Sums that are given to publish may be those that came back, or numpy arrays of exactly their dtype, counts and quality_sums uint32,
+value_sums and weighted_sums uint64, of shape (rows, columns), or plain lists or array.array of whole numbers, flat.
 
 While the library reads a given array.array, no thread can resize it: Python raises BufferError there.
 
@@ -50,7 +55,7 @@ BY_QUALITY = 1
 
 NO_ECHO = 65_534  # a value: measured with no echo, counts as 0
 NOT_MEASURED = 65_535  # a value: contributes nothing
-NO_MEAN = 65_535  # a mean with nothing to divide by
+NO_MEAN = 65_535  # a mean with nothing to divide by, or of sums that give more than 65,533, as those of a tally never do
 OUTSIDE = 4_294_967_295  # the ledger entry of a gate outside the grid
 
 SENTENCES = {
@@ -146,7 +151,7 @@ class ScanHead(NamedTuple):
 
 
 class Scan(NamedTuple):
-    """A scan in the order in which remap and write_record take it: `remap(*scan)`."""
+    """A scan in the order in which remap and write_record take it: `remap(*scan)`. tally takes all but the weighting."""
 
     site: Site
     grid: Radolan | Hrap
@@ -158,6 +163,30 @@ class Scan(NamedTuple):
     qualities: Any
 
 
+class Sums(NamedTuple):
+    """For each cell: its measured gates, and the sums of their qualities, of their values, and of their values each times its quality."""
+
+    counts: Any
+    quality_sums: Any
+    value_sums: Any
+    weighted_sums: Any
+
+
+class Tally(NamedTuple):
+    """The ledger and the marks, an entry and a mark, 1 or 0, for each gate; then the sums: `publish(PLAIN, *tally.sums)`."""
+
+    ledger: Any
+    marks: Any
+    sums: Sums
+
+
+class Cells(NamedTuple):
+    """Published numbers, one for each cell."""
+
+    means: Any
+    cell_qualities: Any
+
+
 class Remapped(NamedTuple):
     """The ledger and the marks, an entry and a mark, 1 or 0, for each gate; then the sums and the published numbers, one for each cell."""
 
@@ -166,8 +195,14 @@ class Remapped(NamedTuple):
     counts: Any
     quality_sums: Any
     value_sums: Any
+    weighted_sums: Any
     means: Any
     cell_qualities: Any
+
+    @property
+    def sums(self):
+        """The four sums, as publish takes them."""
+        return Sums(self.counts, self.quality_sums, self.value_sums, self.weighted_sums)
 
 
 # The library. Site, grid, scan and sweep are lent as structs of 64-bit numbers, a list as a pointer and a length.
@@ -209,10 +244,11 @@ def _declare(library):
     site, grid, scan, sweep, length = map(POINTER, (_Site, _Grid, _Scan, _Sweep, c_uint64))
     arguments = {
         "place": [site, grid, c_int64, c_int64, POINTER(c_uint32), POINTER(c_int64), POINTER(c_int64), POINTER(c_uint8)],
-        "remap": [scan, *one_list * 10],
-        "sweep_open": [scan, *one_list * 3, sweep],
-        "sweep_take": [sweep, *one_list * 8],
-        "sweep_close": [sweep, *one_list * 5],
+        "tally": [scan, *one_list * 9],
+        "publish": [c_int64, *one_list * 6],
+        "sweep_open": [scan, *one_list * 4, sweep],
+        "sweep_take": [sweep, *one_list * 9],
+        "sweep_close": [sweep, *one_list * 6],
         "record_head": [*one_list, scan],
         "record_field": [*one_list, c_uint32, length, length],
         "record_read": [*one_list, scan, *one_list * 3],
@@ -280,8 +316,11 @@ def _head_read(head):
 
 _ANYWHERE = array("Q", [0])  # what the pointer of an empty list points to
 
-# The shapes of given lists, as numpy has them: azimuths, gates of several rays, gates of one ray.
-_BY_RAY, _BY_GATE, _OF_RAY = ("rays",), ("rays", "gates"), ("gates",)
+# The lists that the library writes: ledger and marks, the four sums, means and cell qualities.
+_ENTRIES, _SUMS, _CELLS = "IB", "IIQQ", "HB"
+
+# The shapes of given lists, as numpy has them: azimuths, gates of several rays, gates of one ray, sums.
+_BY_RAY, _BY_GATE, _OF_RAY, _BY_CELL = ("rays",), ("rays", "gates"), ("gates",), ("rows", "columns")
 
 
 def _new(letter, shape, number=0):
@@ -289,6 +328,11 @@ def _new(letter, shape, number=0):
     if numpy is not None:
         return numpy.full(shape, number, letter)
     return array(letter, [number]) * prod(shape)
+
+
+def _empty(letters):
+    """Empty lists. With these the library refuses a wrong head by its number, before lists of its size are made."""
+    return [array(letter) for letter in letters]
 
 
 def _asked(function, *arguments):
@@ -379,6 +423,19 @@ def _rays_given(azimuths, values, qualities, form=_BY_GATE):
     return [azimuths, values, qualities], shape or other
 
 
+def _sums_given(*sums):
+    """Sums as the library takes them, and the shape of the cells: that of the counts, or of another list, where it has one."""
+    held = [_held(name, letter, numbers, _BY_CELL) for name, letter, numbers in zip(Sums._fields, _SUMS, sums)]
+    shaped = [(name, shape) for name, (_, shape) in zip(Sums._fields, held) if shape]
+    # The library is told lengths alone, and would take rows and columns that have changed places.
+    for name, shape in shaped:
+        first, needed = shaped[0]
+        if shape != needed and prod(shape) == prod(needed):
+            raise ValueError(f"{first} have the shape {needed} and {name} {shape}; they must have the same")
+    lists = [numbers for numbers, _ in held]
+    return lists, shaped[0][1] if shaped else (len(lists[0]),)
+
+
 def _head(site, grid, weighting, first, spacing, rays, gates):
     numbers = _numbers(rays=rays, gates=gates, first=first, spacing=spacing)
     return _Scan(_site(site), *numbers, _grid(grid), _number("weighting", weighting))
@@ -427,20 +484,49 @@ def place(site, grid, azimuth, range):
     return Placement(x.value, y.value, None if cell.value == OUTSIDE else cell.value, mark.value != 0)
 
 
-def remap(site, grid, weighting, first, spacing, azimuths, values, qualities):
-    """The ledger, the marks, the sums and the published cells of a scan; the module's text has an example.
-
-    A weighting other than 0 is by quality.
-    """
-    head, lists = _given(Scan(site, grid, weighting, first, spacing, azimuths, values, qualities))
-    # Asked with empty lists, the library refuses a wrong head by its number, before lists of its size are made.
-    number = _asked(_library.uldrevin_remap, head, *lists, *(array(letter) for letter in "IBIIQHB"))
+def tally(site, grid, first, spacing, azimuths, values, qualities):
+    """The ledger, the marks and the sums of a scan, which serve both weightings; the module's text has an example."""
+    scan = Scan(site, grid, PLAIN, first, spacing, azimuths, values, qualities)  # the weighting plays no part
+    head, lists = _given(scan)
+    number = _asked(_library.uldrevin_tally, head, *lists, *_empty(_ENTRIES + _SUMS))
     if number != LENGTH_NOT_EXACT:
         raise Refusal(number)
     gates, cells = (head.rays, head.gates), (head.grid.rows, head.grid.columns)
-    remapped = Remapped(*(_new(letter, gates) for letter in "IB"), *(_new(letter, cells) for letter in "IIQHB"))
-    _accept(_asked(_library.uldrevin_remap, head, *lists, *remapped))
-    return remapped
+    entries, sums = [_new(letter, gates) for letter in _ENTRIES], Sums(*(_new(letter, cells) for letter in _SUMS))
+    _accept(_asked(_library.uldrevin_tally, head, *lists, *entries, *sums))
+    return Tally(*entries, sums)
+
+
+def publish(weighting, counts, quality_sums, value_sums, weighted_sums):
+    """The means and the qualities of cells, from sums of any number of cells: those of a tally or a sweep, or any others.
+
+    Plain, a mean is the value sum by the count; by quality, which is any weighting other than 0, the weighted sum by the quality sum. For
+    divisor 0, and above 65,533, it is NO_MEAN. A quality is the quality sum by the count in either weighting, 0 for count 0 and 100 where
+    it would be more:
+
+    >>> sums = [2, 0, 1], [100, 3, 101], [8, 5, 65_534], [160, 10, 202]
+    >>> [flat(cells) for cells in publish(PLAIN, *sums)]
+    [[4, 65535, 65535], [50, 0, 100]]
+    >>> [flat(cells) for cells in publish(BY_QUALITY, *sums)]
+    [[1, 3, 2], [50, 0, 100]]
+    >>> publish(PLAIN, [2, 0, 1], [100], [8], [160])
+    Traceback (most recent call last):
+    uldrevin.Refusal: refusal 6: the length of a list is not exact
+
+    The cells have the shape of the counts where these are a numpy array. Sums of an open sweep may be published while no thread feeds it.
+    """
+    weighting = _number("weighting", weighting)
+    sums, shape = _sums_given(counts, quality_sums, value_sums, weighted_sums)
+    cells = Cells(*(_new(letter, shape) for letter in _CELLS))
+    _accept(_asked(_library.uldrevin_publish, weighting, *sums, *cells))
+    return cells
+
+
+def remap(site, grid, weighting, first, spacing, azimuths, values, qualities):
+    """A scan tallied, and published in one weighting: `remap(*scan)`. A weighting other than 0 is by quality."""
+    weighting = _number("weighting", weighting)
+    ledger, marks, sums = tally(site, grid, first, spacing, azimuths, values, qualities)
+    return Remapped(ledger, marks, *sums, *publish(weighting, *sums))
 
 
 def _own(name, words):
@@ -465,22 +551,30 @@ class Sweep:
     >>> [flat(cells)[1] for cells in (remapped.means, remapped.cell_qualities, remapped.counts)]
     [1, 60, 5]
 
+    The sums serve both weightings, whatever that of the sweep. It was closed by quality; the means of the plain sheet:
+
+    >>> flat(publish(PLAIN, *sweep.sums).means)
+    [65535, 3]
+
     A refused ray, or a group of rays with one bad ray, changes nothing, and the sweep goes on without it. The ledger and the marks of the
-    rays taken, the sums, and after closing the cells, are those that remap gives for the whole scan of these rays, however they were
-    divided, unless the caller has altered a list. Until its ray is taken a gate's ledger entry is OUTSIDE and its mark 0; until the sweep
-    is closed each mean is NO_MEAN and each cell's quality 0. Threads that share a sweep wait for each other.
+    rays taken, and the sums, are those that tally gives for the whole scan of these rays, however they were divided, and after closing the
+    cells are those that publish gives from these sums, unless the caller has altered a list. Until its ray is taken a gate's ledger entry
+    is OUTSIDE and its mark 0; until the sweep is closed each mean is NO_MEAN and each cell's quality 0. Threads that share a sweep wait for
+    each other.
     """
 
     def __init__(self, site, grid, weighting, first, spacing, rays, gates):
-        """Opens a sweep of this many rays, of this many gates each. A weighting other than 0 is by quality. Refusals 1 to 5."""
+        """Opens a sweep of this many rays, of this many gates each. Closing publishes in its weighting, by quality for any but 0.
+
+        Refusals 1 to 5.
+        """
         head = _head(site, grid, weighting, first, spacing, rays, gates)
         self._state, self._lock = _Sweep(), Lock()
-        # Asked with empty lists, the library refuses a wrong head by its number, before lists of its size are made.
-        number = _asked(_library.uldrevin_sweep_open, head, *(array(letter) for letter in "IIQ"), self._state)
+        number = _asked(_library.uldrevin_sweep_open, head, *_empty(_SUMS), self._state)
         if number != LENGTH_NOT_EXACT:
             raise Refusal(number)
         gates, cells = (head.rays, head.gates), (head.grid.rows, head.grid.columns)
-        sums = [_new(letter, cells) for letter in "IIQ"]
+        sums = [_new(letter, cells) for letter in _SUMS]
         _accept(_asked(_library.uldrevin_sweep_open, head, *sums, self._state))
         self._lists = Remapped(_new("I", gates, OUTSIDE), _new("B", gates), *sums, _new("H", cells, NO_MEAN), _new("B", cells))
 
@@ -488,15 +582,17 @@ class Sweep:
     marks = _own("marks", "For each gate of all rays announced: its mark, 1 or 0; 0 until its ray is taken.")
     counts = _own("counts", "For each cell: the measured gates in it, of the rays taken.")
     quality_sums = _own("quality_sums", "For each cell: the sum of the qualities of these gates.")
-    value_sums = _own("value_sums", "For each cell: the sum of the values of these gates, each times its quality if by quality.")
+    value_sums = _own("value_sums", "For each cell: the sum of the values of these gates.")
+    weighted_sums = _own("weighted_sums", "For each cell: the sum of the values of these gates, each times its quality.")
     means = _own("means", "For each cell: its mean, published on closing.")
     cell_qualities = _own("cell_qualities", "For each cell: its quality, published on closing.")
+    sums = _own("sums", "The four sums, as publish takes them.")
     head = property(lambda self: _head_read(self._state.scan), doc="The numbers of the scan; its rays are those announced.")
     taken = property(lambda self: self._state.taken, doc="How many rays were taken so far.")
     closed = property(lambda self: self._state.closed != 0, doc="Whether the sweep is closed.")
 
     def take(self, azimuths, values, qualities):
-        """Takes the next ray, given as its azimuth, the values of its gates and their qualities, or several, given in lists as to remap.
+        """Takes the next ray, given as its azimuth, the values of its gates and their qualities, or several, given in lists as to tally.
 
         Values and qualities of one ray as numpy arrays have the shape (gates,). Refusals, in this order: 19, 17, 6 also for no rays, 7, 8,
         and 31 where the caller has altered the sums.
@@ -510,7 +606,7 @@ class Sweep:
         # The library is told lengths alone, and would take rays and gates that have changed places.
         if form == _BY_GATE and shape and shape != needed and prod(shape) == prod(needed):
             raise ValueError(f"values and qualities must have the shape {needed} for these azimuths, and have {shape}")
-        own = self._lists[:5]  # the ledger, the marks and the sums
+        own = self._lists[:6]  # the ledger, the marks and the sums
         if any(_overlap(given, written) for given in lists for written in own):
             raise ValueError("a list that is given must not be one of the sweep's own")
         with self._lock:
@@ -537,10 +633,9 @@ class Sweep:
             self.take(*ray)
 
     def close(self):
-        """Publishes means and cell qualities, and ends the sweep. The lists, which are the sweep's own, come back as from remap.
+        """Publishes means and cell qualities in the sweep's weighting, as publish does, and ends the sweep.
 
-        From sums that the caller has altered, a mean above 65,533 becomes NO_MEAN and a quality above 100 becomes 100. Refusals, in this
-        order: 19, 18, 6.
+        The lists, which are the sweep's own, come back as from remap. Refusals, in this order: 19, 18, 6.
         """
         with self._lock:
             _accept(_asked(_library.uldrevin_sweep_close, self._state, *self._lists[2:]))  # the sums and the cells

@@ -3,35 +3,44 @@
 use std::io::{self, Read, Write};
 use std::process::ExitCode;
 
-use uldrevin::{read_record, remap, Refusal, Remapped, ScanRead, NOT_MEASURED, OUTSIDE};
+use uldrevin::{
+    publish, read_record, tally, Cells, Refusal, ScanRead, Tally, NOT_MEASURED, OUTSIDE,
+};
 
-fn remapped(record: &[u8]) -> Result<(ScanRead, Remapped), Refusal> {
+/// The scan of a record, its tally, and its cells in the weighting that the record names.
+fn remapped(record: &[u8]) -> Result<(ScanRead, Tally, Cells), Refusal> {
     let scan = read_record(record)?;
-    let remapped = remap(scan.head, scan.gate_lists())?;
-    Ok((scan, remapped))
+    let tally = tally(scan.head, scan.gate_lists())?;
+    let cells = publish(scan.head.weighting, &tally.sums)?;
+    Ok((scan, tally, cells))
 }
 
-fn print_grid(out: &mut impl Write, scan: &ScanRead, remapped: &Remapped) -> io::Result<()> {
+fn print_grid(
+    out: &mut impl Write,
+    scan: &ScanRead,
+    tally: &Tally,
+    cells: &Cells,
+) -> io::Result<()> {
     let columns = scan.head.grid.columns() as usize;
     let measured_inside = |(&value, &cell): (&u16, &u32)| value != NOT_MEASURED && cell != OUTSIDE;
-    let gates = scan.values.iter().zip(&remapped.ledger);
+    let gates = scan.values.iter().zip(&tally.ledger);
     let placed = gates.filter(|&gate| measured_inside(gate)).count();
     writeln!(out, "grid {columns} {}", scan.head.grid.rows())?;
     writeln!(out, "gates {} placed {placed}", scan.values.len())?;
-    for (cell, &count) in remapped.counts.iter().enumerate() {
+    for (cell, &count) in tally.sums.counts.iter().enumerate() {
         if count != 0 {
             let (column, row) = (cell % columns, cell / columns);
-            let (mean, quality) = (remapped.means[cell], remapped.cell_qualities[cell]);
+            let (mean, quality) = (cells.means[cell], cells.cell_qualities[cell]);
             writeln!(out, "{column} {row} {mean} {quality} {count}")?;
         }
     }
     Ok(())
 }
 
-fn print_ledger(out: &mut impl Write, scan: &ScanRead, remapped: &Remapped) -> io::Result<()> {
+fn print_ledger(out: &mut impl Write, scan: &ScanRead, tally: &Tally) -> io::Result<()> {
     let gates = scan.head.gates as usize;
     writeln!(out, "ledger")?;
-    for (k, (&cell, mark)) in remapped.ledger.iter().zip(&remapped.marks).enumerate() {
+    for (k, (&cell, mark)) in tally.ledger.iter().zip(&tally.marks).enumerate() {
         let (ray, gate) = (k / gates, k % gates);
         if cell == OUTSIDE {
             writeln!(out, "{ray} {gate} outside {mark}")?;
@@ -51,9 +60,9 @@ fn main() -> io::Result<ExitCode> {
             writeln!(out, "refused {}", refusal.number)?;
             Ok(ExitCode::FAILURE)
         }
-        Ok((scan, remapped)) => {
-            print_grid(&mut out, &scan, &remapped)?;
-            print_ledger(&mut out, &scan, &remapped)?;
+        Ok((scan, tally, cells)) => {
+            print_grid(&mut out, &scan, &tally, &cells)?;
+            print_ledger(&mut out, &scan, &tally)?;
             Ok(ExitCode::SUCCESS)
         }
     }

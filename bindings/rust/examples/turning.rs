@@ -3,29 +3,21 @@
 use std::io::{self, Read, Write};
 use std::process::ExitCode;
 
-use uldrevin::{read_record, EntryLists, GateLists, Refusal, ScanRead, SumLists, Sweep};
+use uldrevin::{read_record, Cells, EntryLists, GateLists, Refusal, ScanRead, Sums, Sweep};
 
-struct Cells {
-    means: Vec<u16>,
-    qualities: Vec<u8>,
-    counts: Vec<u32>,
-}
-
-fn swept(scan: &ScanRead) -> Result<Cells, Refusal> {
+fn swept(scan: &ScanRead) -> Result<(Sums, Cells), Refusal> {
     let (gates, all_gates) = (scan.head.gates as usize, scan.head.all_gates());
-    let cells = scan.head.all_cells();
+    let all_cells = scan.head.all_cells();
     let (mut ledger, mut marks) = (vec![0; all_gates], vec![0; all_gates]);
-    let (mut counts, mut quality_sums) = (vec![0; cells], vec![0; cells]);
-    let (mut value_sums, mut means, mut qualities) =
-        (vec![0; cells], vec![0; cells], vec![0; cells]);
     let mut entries = EntryLists {
         ledger: &mut ledger,
         marks: &mut marks,
     };
-    let mut sums = SumLists {
-        counts: &mut counts,
-        quality_sums: &mut quality_sums,
-        value_sums: &mut value_sums,
+    let mut kept = Sums::zeros(all_cells);
+    let mut sums = kept.lists();
+    let mut cells = Cells {
+        means: vec![0; all_cells],
+        cell_qualities: vec![0; all_cells],
     };
 
     let mut sweep = Sweep::open(scan.head, &mut sums)?;
@@ -38,24 +30,20 @@ fn swept(scan: &ScanRead) -> Result<Cells, Refusal> {
         };
         sweep = sweep.take(ray, &mut entries, &mut sums)?;
     }
-    sweep.close(&sums, &mut means, &mut qualities)?;
+    sweep.close(&sums, &mut cells.means, &mut cells.cell_qualities)?;
 
-    Ok(Cells {
-        means,
-        qualities,
-        counts,
-    })
+    Ok((kept, cells))
 }
 
-fn print_grid(out: &mut impl Write, scan: &ScanRead, cells: &Cells) -> io::Result<()> {
+fn print_grid(out: &mut impl Write, scan: &ScanRead, sums: &Sums, cells: &Cells) -> io::Result<()> {
     let columns = scan.head.grid.columns() as usize;
-    let placed: u32 = cells.counts.iter().sum();
+    let placed: u32 = sums.counts.iter().sum();
     writeln!(out, "grid {columns} {}", scan.head.grid.rows())?;
     writeln!(out, "gates {} placed {placed}", scan.values.len())?;
-    for (cell, &count) in cells.counts.iter().enumerate() {
+    for (cell, &count) in sums.counts.iter().enumerate() {
         if count != 0 {
             let (column, row) = (cell % columns, cell / columns);
-            let (mean, quality) = (cells.means[cell], cells.qualities[cell]);
+            let (mean, quality) = (cells.means[cell], cells.cell_qualities[cell]);
             writeln!(out, "{column} {row} {mean} {quality} {count}")?;
         }
     }
@@ -71,8 +59,8 @@ fn main() -> io::Result<ExitCode> {
             writeln!(out, "refused {}", refusal.number)?;
             Ok(ExitCode::FAILURE)
         }
-        Ok((cells, scan)) => {
-            print_grid(&mut out, &scan, &cells)?;
+        Ok(((sums, cells), scan)) => {
+            print_grid(&mut out, &scan, &sums, &cells)?;
             Ok(ExitCode::SUCCESS)
         }
     }

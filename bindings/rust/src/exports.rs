@@ -58,7 +58,7 @@ pub struct ScanNumbers {
     pub first: i64,
     pub spacing: i64,
     pub grid: GridNumbers,
-    /// 0 plain, any other number by quality.
+    /// 0 plain, any other number by quality. Plays no part in a tally.
     pub weighting: i64,
 }
 
@@ -87,7 +87,7 @@ extern "C" {
         mark: *mut u8,
     ) -> u32;
 
-    pub fn uldrevin_remap(
+    pub fn uldrevin_tally(
         scan: *const ScanNumbers,
         azimuths: *const u32,
         azimuths_length: usize,
@@ -105,6 +105,20 @@ extern "C" {
         quality_sums_length: usize,
         value_sums: *mut u64,
         value_sums_length: usize,
+        weighted_sums: *mut u64,
+        weighted_sums_length: usize,
+    ) -> u32;
+
+    pub fn uldrevin_publish(
+        weighting: i64,
+        counts: *const u32,
+        counts_length: usize,
+        quality_sums: *const u32,
+        quality_sums_length: usize,
+        value_sums: *const u64,
+        value_sums_length: usize,
+        weighted_sums: *const u64,
+        weighted_sums_length: usize,
         means: *mut u16,
         means_length: usize,
         cell_qualities: *mut u8,
@@ -119,6 +133,8 @@ extern "C" {
         quality_sums_length: usize,
         value_sums: *mut u64,
         value_sums_length: usize,
+        weighted_sums: *mut u64,
+        weighted_sums_length: usize,
         sweep: *mut SweepNumbers,
     ) -> u32;
 
@@ -140,6 +156,8 @@ extern "C" {
         quality_sums_length: usize,
         value_sums: *mut u64,
         value_sums_length: usize,
+        weighted_sums: *mut u64,
+        weighted_sums_length: usize,
     ) -> u32;
 
     pub fn uldrevin_sweep_close(
@@ -150,6 +168,8 @@ extern "C" {
         quality_sums_length: usize,
         value_sums: *const u64,
         value_sums_length: usize,
+        weighted_sums: *const u64,
+        weighted_sums_length: usize,
         means: *mut u16,
         means_length: usize,
         cell_qualities: *mut u8,

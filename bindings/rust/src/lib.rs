@@ -3,10 +3,11 @@
 //! Angles are ten-thousandths of a degree, lengths are centimetres. No argument need be checked first: every call gives its result or
 //! a [`Refusal`] with its number, and a refusal leaves every lent list as it came in. [`exports`] has the functions as C has them.
 //!
-//! Two gates of one ray, weighted by quality, on a grid of two cells. They lie on the line between the two, and so have the mark 1:
+//! Two gates of one ray on a grid of two cells, tallied once and published in both weightings. They lie on the line between the two cells,
+//! and so have the mark 1:
 //!
 //! ```
-//! use uldrevin::{remap, GateLists, Grid, HrapGrid, ScanHead, Site, Weighting};
+//! use uldrevin::{publish, tally, GateLists, Grid, HrapGrid, ScanHead, Site, Weighting, NO_MEAN};
 //!
 //! let head = ScanHead {
 //!     site: Site { latitude: 600_000, longitude: -1_050_000 },
@@ -18,12 +19,18 @@
 //!     weighting: Weighting::ByQuality,
 //! };
 //! let scan = GateLists { azimuths: &[0], values: &[1, 7], qualities: &[90, 10] };
-//! let remapped = remap(head, scan)?;
-//! assert_eq!(remapped.ledger, [1, 1]);
-//! assert_eq!(remapped.marks, [1, 1]);
-//! assert_eq!(remapped.counts, [0, 2]);
-//! assert_eq!(remapped.means, [uldrevin::NO_MEAN, 1]);
-//! assert_eq!(remapped.cell_qualities, [0, 50]);
+//! let tally = tally(head, scan)?;
+//! assert_eq!(tally.ledger, [1, 1]);
+//! assert_eq!(tally.marks, [1, 1]);
+//! assert_eq!(tally.sums.counts, [0, 2]);
+//! assert_eq!(tally.sums.value_sums, [0, 8]);
+//! assert_eq!(tally.sums.weighted_sums, [0, 160]); // 1 x 90 + 7 x 10
+//!
+//! let plain = publish(Weighting::Plain, &tally.sums)?;
+//! assert_eq!(plain.means, [NO_MEAN, 4]); // 8 / 2
+//! let by_quality = publish(Weighting::ByQuality, &tally.sums)?;
+//! assert_eq!(by_quality.means, [NO_MEAN, 1]); // 160 / 100
+//! assert_eq!(by_quality.cell_qualities, [0, 50]);
 //! # Ok::<(), uldrevin::Refusal>(())
 //! ```
 //!
@@ -32,19 +39,25 @@
 pub mod exports;
 mod gate;
 mod numbers;
+mod publish;
 mod record;
 mod refusal;
 mod scan;
+mod sums;
 mod sweep;
+mod tally;
 
 pub use gate::{place, Placement};
+pub use publish::{publish, publish_into, Cells};
 pub use record::{
     read_record, read_record_into, record_field, record_head, write_record, write_record_into,
     ScanRead,
 };
 pub use refusal::Refusal;
-pub use scan::{remap, remap_into, CellLists, GateLists, Remapped, ScanHead, Weighting};
-pub use sweep::{EntryLists, SumLists, Sweep};
+pub use scan::{GateLists, ScanHead, Weighting};
+pub use sums::{SumLists, Sums};
+pub use sweep::Sweep;
+pub use tally::{tally, tally_into, EntryLists, Tally};
 
 /// The ledger entry of a gate outside the grid.
 pub const OUTSIDE: u32 = 4_294_967_295;
@@ -52,7 +65,7 @@ pub const OUTSIDE: u32 = 4_294_967_295;
 pub const NO_ECHO: u16 = 65_534;
 /// The value of a gate that was not measured. It contributes nothing.
 pub const NOT_MEASURED: u16 = 65_535;
-/// The mean of a cell whose divisor is 0.
+/// The mean of a cell whose divisor is 0, or whose sums give more than 65,533, as those of a tally never do.
 pub const NO_MEAN: u16 = 65_535;
 
 /// The radar's site: latitude 200,000 to 750,000, longitude -1,800,000 to 1,800,000, east positive.

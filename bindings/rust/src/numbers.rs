@@ -31,6 +31,15 @@ impl From<Grid> for GridNumbers {
     }
 }
 
+impl From<Weighting> for i64 {
+    fn from(weighting: Weighting) -> i64 {
+        match weighting {
+            Weighting::Plain => 0,
+            Weighting::ByQuality => 1,
+        }
+    }
+}
+
 impl From<ScanHead> for ScanNumbers {
     fn from(head: ScanHead) -> ScanNumbers {
         ScanNumbers {
@@ -40,10 +49,7 @@ impl From<ScanHead> for ScanNumbers {
             first: head.first.into(),
             spacing: head.spacing.into(),
             grid: head.grid.into(),
-            weighting: match head.weighting {
-                Weighting::Plain => 0,
-                Weighting::ByQuality => 1,
-            },
+            weighting: head.weighting.into(),
         }
     }
 }

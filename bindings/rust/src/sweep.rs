@@ -3,34 +3,20 @@
 use crate::exports::{self, SweepNumbers};
 use crate::numbers::sweep_of;
 use crate::refusal::done;
-use crate::{GateLists, Refusal, ScanHead};
-
-/// The lists that a sweep writes for its gates: a ledger entry and a mark, 1 or 0, a gate of all rays announced.
-#[derive(Debug)]
-pub struct EntryLists<'a> {
-    pub ledger: &'a mut [u32],
-    pub marks: &'a mut [u8],
-}
-
-/// The sums that a sweep adds its gates to, a number a cell each.
-#[derive(Debug)]
-pub struct SumLists<'a> {
-    pub counts: &'a mut [u32],
-    pub quality_sums: &'a mut [u32],
-    pub value_sums: &'a mut [u64],
-}
+use crate::{EntryLists, GateLists, Refusal, ScanHead, SumLists};
 
 /// A scan in the making. Each method takes the state and gives the new one; after a refusal the caller goes on with the old one.
 ///
 /// The lists are the caller's, and as long as those of the whole scan from the start. While a caller hands on the latest state and
-/// untouched lists, the ledger and the marks of the rays taken, the sums, and after closing the cells, are those that
-/// [`remap`](crate::remap) gives for the whole scan of these rays, however they were divided. The state is plain numbers, which are tested
-/// again at each call.
+/// untouched lists, the ledger and the marks of the rays taken, and the sums, are those that [`tally`](crate::tally()) gives for the whole
+/// scan of these rays, however they were divided, and after closing the cells are those that [`publish`](crate::publish()) gives from these
+/// sums in the weighting of the head. From the same sums `publish` gives the cells in either weighting, at any time. The state is plain
+/// numbers, which are tested again at each call.
 ///
 /// Two rays on a grid of two cells. The second is refused, and taken once it is mended:
 ///
 /// ```
-/// use uldrevin::{EntryLists, GateLists, Grid, HrapGrid, ScanHead, Site, SumLists, Sweep, Weighting};
+/// use uldrevin::{publish, EntryLists, GateLists, Grid, HrapGrid, ScanHead, Site, Sums, Sweep, Weighting};
 ///
 /// let head = ScanHead {
 ///     site: Site { latitude: 600_000, longitude: -1_050_000 },
@@ -41,7 +27,8 @@ pub struct SumLists<'a> {
 ///     grid: Grid::Hrap(HrapGrid { i: 400, j: 932, columns: 2, rows: 1 }),
 ///     weighting: Weighting::ByQuality,
 /// };
-/// let mut sums = SumLists { counts: &mut [0; 2], quality_sums: &mut [0; 2], value_sums: &mut [0; 2] };
+/// let mut kept = Sums::zeros(2);
+/// let mut sums = kept.lists();
 /// let mut entries = EntryLists { ledger: &mut [0; 4], marks: &mut [0; 4] };
 /// let (mut means, mut cell_qualities) = ([0; 2], [0; 2]);
 ///
@@ -66,6 +53,8 @@ pub struct SumLists<'a> {
 /// assert_eq!(sweep.take(ray, &mut entries, &mut sums).unwrap_err().number, 19); // it is closed
 /// let altered = Sweep { closed: false, ..sweep };
 /// assert_eq!(altered.take(ray, &mut entries, &mut sums).unwrap_err().number, 17); // both rays are taken
+///
+/// assert_eq!(publish(Weighting::Plain, &kept)?.means[1], 4); // the other sheet: (1 + 7 + 3 + 5) / 4
 /// # Ok::<(), uldrevin::Refusal>(())
 /// ```
 #[derive(Clone, Copy, Debug, PartialEq, Eq)]
@@ -91,6 +80,8 @@ impl Sweep {
                 sums.quality_sums.len(),
                 sums.value_sums.as_mut_ptr(),
                 sums.value_sums.len(),
+                sums.weighted_sums.as_mut_ptr(),
+                sums.weighted_sums.len(),
                 &mut numbers,
             )
         })?;
@@ -98,7 +89,8 @@ impl Sweep {
     }
 
     /// Takes one ray or several, which follow those taken before. Their ledger entries and marks are written, those of other rays stay,
-    /// and the sums grow by their gates. Refusals, in this order: 19, 17, 1 to 5, 6 also for no rays, 7, 8, 31.
+    /// and the four sums grow by their gates, whatever the weighting. Refusals, in this order: 19, 17, 1 to 5, 6 also for no rays, 7, 8,
+    /// 31.
     pub fn take(
         self,
         rays: GateLists,
@@ -126,13 +118,15 @@ impl Sweep {
                 sums.quality_sums.len(),
                 sums.value_sums.as_mut_ptr(),
                 sums.value_sums.len(),
+                sums.weighted_sums.as_mut_ptr(),
+                sums.weighted_sums.len(),
             )
         })?;
         Ok(sweep_of(numbers))
     }
 
-    /// Closes a sweep that has taken all its rays, and publishes its cells. From sums that a caller has altered, a mean above 65,533
-    /// becomes [`NO_MEAN`](crate::NO_MEAN) and a quality above 100 becomes 100. Refusals, in this order: 19, 17, 1 to 5, 18, 6.
+    /// Closes a sweep that has taken all its rays, and publishes its cells in the weighting of its head, as [`publish`](crate::publish())
+    /// does, also from sums that a caller has altered. Refusals, in this order: 19, 17, 1 to 5, 18, 6.
     pub fn close(
         self,
         sums: &SumLists,
@@ -150,6 +144,8 @@ impl Sweep {
                 sums.quality_sums.len(),
                 sums.value_sums.as_ptr(),
                 sums.value_sums.len(),
+                sums.weighted_sums.as_ptr(),
+                sums.weighted_sums.len(),
                 means.as_mut_ptr(),
                 means.len(),
                 cell_qualities.as_mut_ptr(),
