@@ -17,7 +17,7 @@ from near_lines import SEED
 from second_program import exact_cells, placement, scan as rules
 from second_program.placement import OUTSIDE, Hrap, Radolan
 from second_program.scan import NO_ECHO, NOT_MEASURED
-from sweep_calls import Desk, beside_meant, rays_of
+from sweep_calls import Desk, beside_meant, exact_lengths, rays_of
 
 # Single gates.
 
@@ -167,7 +167,7 @@ def scan_groups():
     yield "of the examples", [scan for _, scan in example_records()]
 
 
-def remapped(compiled, scan):
+def tallied(compiled, scan):
     """The library's lists of a whole scan, and where it refuses it or changes what is given."""
     number, _, lists, lines = compare_scan.answer(compiled, scan, rules.lent_lengths(scan))
     if number != 0:
@@ -180,7 +180,7 @@ def whole_scans(compiled):
     for name, scans in scan_groups():
         tally, lines, count = Counter(), [], 0
         for scan in scans:
-            lists, found = remapped(compiled, scan)
+            lists, found = tallied(compiled, scan)
             counted, others = counts_beside_exact(scan, lists.ledger, lists.marks, lists.counts)
             tally += counted
             lines += found + others
@@ -192,7 +192,7 @@ def whole_scans(compiled):
 
 def swept(compiled, scan, division):
     """A sweep after its opening and after each group: how many rays are taken, the desk, and what differs from the rules."""
-    desk = Desk(compiled, rules.lent_lengths(scan))
+    desk = Desk(compiled, exact_lengths(scan))
     yield 0, desk, beside_meant(*desk.open(scan), 0)
     for start, end in zip((0, *division), division):
         yield end, desk, beside_meant(*desk.take(rays_of(scan, start, end)), 0)
@@ -283,7 +283,7 @@ BY_HAND = (
 def by_hand(compiled):
     lines = []
     for scan, bounds, exact in BY_HAND:
-        lists, found = remapped(compiled, scan)
+        lists, found = tallied(compiled, scan)
         got = exact_cells.least_and_greatest(scan, lists.ledger, lists.marks, rules.positions(scan))
         if (got, exact_cells.exact_counts(scan)) != (bounds, exact):
             found.append(f"least and greatest are {got}, exact {exact_cells.exact_counts(scan)}, by hand {bounds} and {exact}")

@@ -28,7 +28,7 @@ EXAMPLE_RUN = (
 )
 NO_PICTURE = "matplotlib is not here; install python3-matplotlib to draw the pictures"
 
-# A whole scan that gives the counts as its means.
+# A whole scan, tallied and published, that gives the counts as its means.
 OTHER_MEANS = (
     f"import sys; sys.path.insert(0, {str(BINDING)!r}); import uldrevin; remap = uldrevin.remap; "
     "uldrevin.remap = lambda *scan: (whole := remap(*scan))._replace(means=whole.counts); "
@@ -117,6 +117,39 @@ def shown(command):
     return [line[4:] for line in takewhile(lambda line: line.startswith("    "), text.splitlines())]
 
 
+def sheets_worked_again(lines):
+    """What the two maps of examples/two_sheets.py say below them: how many cells differ, with stars, and the first that differs most."""
+    rows = [line.split()[1:] for line in reversed(lines) if re.match(r" +\d+ ", line)]  # row 0 is the southernmost, and stands last
+    columns = len(rows[0]) // 2
+    cells = [pair for row in rows for pair in zip(row[:columns], row[columns:])]
+    apart = [abs(int(plain.rstrip("*")) - int(by_quality.rstrip("*"))) for plain, by_quality in cells]
+    yield f"{sum(plain.endswith('*') and by_quality.endswith('*') for plain, by_quality in cells)} of {len(cells)} cells differ (*)"
+    yield f"{sum(difference > 0 for difference in apart)} of {len(cells)} cells differ (*)"
+    cell = apart.index(max(apart))
+    yield f"Column {cell % columns}, row {cell // columns}, cell {cell}, has the greatest difference. Its gates:"
+
+
+def divisions_worked_again(lines):
+    """The sums and both means of the cell of examples/two_sheets.py, from the gates that it lists."""
+    numbers = [int(word) for line in lines if re.fullmatch(r"\d[ \d]*", line) for word in line.split()]
+    values, qualities = numbers[2::4], numbers[3::4]
+    products = sum(value * quality for value, quality in zip(values, qualities))
+    count, quality_sum, value_sum = len(values), sum(qualities), sum(values)
+    yield f"count {count:,}, quality sum {quality_sum:,}, value sum {value_sum:,}, sum of value x quality {products:,}"
+    yield f"plain {value_sum:,} / {count:,} = {value_sum // count:,}"
+    yield f"by quality {products:,} / {quality_sum:,} = {products // quality_sum:,}"
+
+
+def two_sheets_lines(form):
+    """It prints what its README shows, and that follows from the maps and the gates in it."""
+    done, expected = example(form, "two_sheets.py"), shown("python3 examples/two_sheets.py")
+    worked = [*sheets_worked_again(expected), *divisions_worked_again(expected)]
+    lines = [f"`{line}` is not in examples/README.md" for line in worked if line not in expected]
+    if (done.stdout.splitlines(), done.returncode) != (expected, 0):
+        lines += [*done.stdout.splitlines(), f"it ended with status {done.returncode} and {done.stderr[-200:]}, expected {expected}"]
+    return lines
+
+
 def turning_lines(form):
     """It prints what its README shows. Where a list is not that of the whole scan, it names it, and its status is 1."""
     good = shown("python3 examples/turning.py")
@@ -155,6 +188,7 @@ def comparisons():
         closing, lines = check_lines(form)
         yield f"the Python binding: {closing}", lines
         yield f"examples/storm.py {form.words}", storm_lines(form)
+        yield f"examples/two_sheets.py {form.words}", two_sheets_lines(form)
         yield f"examples/turning.py {form.words}", turning_lines(form)
         runs, lines = exact_counts_lines(form)
         yield f"examples/exact_counts.py {form.words}: {runs} runs, each cell of the example records among them", lines

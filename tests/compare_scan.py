@@ -1,21 +1,23 @@
-"""The whole scan by the compiled library against the second program's: the answer and every number of every list."""
+"""The tally of a whole scan by the compiled library against the second program's: the answer and every number of every list."""
 import random
 from itertools import combinations, product
+from typing import NamedTuple
 
 import library
 import marked_gates
 from good_scans import SEED, SHEET, groups
 from lent_lists import GIVEN, MARGIN, changed_lines, earlier, filled_with, given_lists, lending_all
 from lent_structs import SIDES, WEIGHTINGS, scan_struct
+from publish_calls import SUMMED, cells_of, publish_lines
 from second_program import placement, scan as rules
 from second_program.placement import OUTSIDE, Hrap, Radolan
-from second_program.scan import Lent, Remapped, Scan
+from second_program.scan import Cells, Lent, Scan, Tallied
 from wrong_scans import HRAP_SCAN, RADOLAN_SCAN, apply, far_numbers, far_pairs, limits, pairs, together
 
 SHOWN = 3  # places printed of one list
 
 # By array's letters.
-WRITTEN = Lent("I", "B", "I", "I", "Q", "H", "B")
+WRITTEN = Lent("I", "B", *SUMMED)
 
 
 # The library's answers.
@@ -27,7 +29,7 @@ def answer(compiled, scan, lengths):
     given_before = [bytes(one) for one in (head, *given)]
     lists = Lent(*(earlier(letter, length) for letter, length in zip(WRITTEN, lengths)))
     before = Lent(*(held[:] for held in lists))
-    number = compiled.uldrevin_remap(head, *lending_all([*given, *lists]))
+    number = compiled.uldrevin_tally(head, *lending_all([*given, *lists]))
     return number, before, lists, changed_lines(["scan", *GIVEN], [head, *given], given_before)
 
 
@@ -64,8 +66,8 @@ def list_differences(scan, name, got, expected, says):
     return lines
 
 
-def differences_from(compiled, scan, lengths, expected):
-    """Where the library's answer and lists differ from the expected ones. After a refusal the lists are the earlier ones."""
+def tallied_beside(compiled, scan, lengths, expected):
+    """The library's lists, and where its answer and lists differ from the expected ones. After a refusal the lists are the earlier ones."""
     number, before, after, lines = answer(compiled, scan, lengths)
     if number != expected.refusal:
         lines.append(f"answered with {number} in the library and with {expected.refusal} by the rule")
@@ -74,6 +76,11 @@ def differences_from(compiled, scan, lengths, expected):
         old, got = before[place], after[place]
         wanted = filled_with(old, expected.lists[place]) if expected.refusal == 0 else old
         lines += list_differences(scan, name, got, wanted, says)
+    return after, lines
+
+
+def differences_from(compiled, scan, lengths, expected):
+    _, lines = tallied_beside(compiled, scan, lengths, expected)
     return lines
 
 
@@ -96,7 +103,7 @@ def beside_single_gates(draw, number, scan, lists):
     return len(chosen), lines
 
 
-class Tally:
+class Summary:
     """What the scans of a group were like."""
 
     scans = gates = inside = marked = cells = all_in = none_in = 0
@@ -121,10 +128,10 @@ def whole_scans(compiled):
     draw = random.Random(SEED + 1)
     singles, single_lines, scans = 0, [], 0
     for name, chosen in groups():
-        tally, lines = Tally(), []
+        summary, lines = Summary(), []
         for number, scan in enumerate(chosen):
             lengths = rules.lent_lengths(scan)
-            expected = rules.remap(scan, lengths)
+            expected = rules.tally(scan, lengths)
             if expected.refusal != 0:
                 lines.append(f"scan {number}, {described(scan)}: refused with {expected.refusal} by the rule, meant as good")
                 continue
@@ -132,40 +139,41 @@ def whole_scans(compiled):
                 f"scan {number}, {described(scan)}: {line}"
                 for line in differences_from(compiled, scan, lengths, expected)
             ]
-            tally.add(scan, expected.lists)
+            summary.add(scan, expected.lists)
             count, others = beside_single_gates(draw, number, scan, expected.lists)
             singles += count
             single_lines += others
-        scans += tally.scans
-        yield f"{tally.scans} scans {name}, seed {SEED}: {tally}", lines
+        scans += summary.scans
+        yield f"{summary.scans} scans {name}, seed {SEED}: {summary}", lines
     yield f"the second program's {scans} ledgers beside its placement of single gates, {singles} gates", single_lines
 
 
 def at_limits_of_the_mark(compiled):
     """Each aimed gate has the mark that it is meant to have, and every mixture is met by measured gates and by others."""
-    chosen, tally, lines = marked_gates.aimed_scans(), Tally(), []
+    chosen, summary, lines = marked_gates.aimed_scans(), Summary(), []
     for number, aimed in enumerate(chosen):
         scan, lengths = aimed.scan, rules.lent_lengths(aimed.scan)
-        expected = rules.remap(scan, lengths)
+        expected = rules.tally(scan, lengths)
         found = differences_from(compiled, scan, lengths, expected) + aimed.other_marks(expected.lists.marks)
         lines += [f"scan {number}, {described(scan)}: {line}" for line in found]
-        tally.add(scan, expected.lists)
+        summary.add(scan, expected.lists)
     met, missing = marked_gates.met_in(chosen)
     title = f"{len(chosen)} scans at both sides of each limit of the mark, seed {marked_gates.SEED}"
-    return f"{title}: {met}, {tally}", lines + missing
+    return f"{title}: {met}, {summary}", lines + missing
 
 
 def in_turn(compiled):
-    """Each number for a weighting by quality, and on HRAP each side with each weighting."""
+    """Each number for a weighting, and on HRAP each side with each weighting. None of them plays a part in a tally."""
     radolan, hrap = (scan._replace(by_quality=True) for scan in (RADOLAN_SCAN, HRAP_SCAN))
     scans = [radolan] * len(WEIGHTINGS) + [hrap] * (len(WEIGHTINGS) * len(SIDES))
-    scans += [hrap._replace(by_quality=False)] * len(SIDES)
+    scans += [radolan._replace(by_quality=False)] + [hrap._replace(by_quality=False)] * len(SIDES)
+    expected = {type(scan.grid): rules.tally(scan, rules.lent_lengths(scan)) for scan in (radolan, hrap)}
     lines = []
     for scan in scans:
-        lengths = rules.lent_lengths(scan)
-        found = differences_from(compiled, scan, lengths, rules.remap(scan, lengths))
+        found = differences_from(compiled, scan, rules.lent_lengths(scan), expected[type(scan.grid)])
         lines += [f"{described(scan)}: {line}" for line in found]
-    return f"{len(WEIGHTINGS)} weightings and {len(SIDES)} sides of an HRAP grid in turn, {len(scans)} scans", lines
+    title = f"{1 + len(WEIGHTINGS)} weightings and {len(SIDES)} sides of an HRAP grid in turn, the same lists for all"
+    return f"{title}, {len(scans)} scans", lines
 
 
 # Refusals.
@@ -177,7 +185,7 @@ def refusal_differences(compiled, chosen):
     for good, changes in chosen:
         scan, lengths = apply(good, changes)
         met.add((type(good.grid), *rules.wrong_numbers(scan, lengths)))
-        expected = rules.remap(scan, lengths)
+        expected = rules.tally(scan, lengths)
         found = differences_from(compiled, scan, lengths, expected)
         meant = min(change.number for change in changes)
         if expected.refusal != meant:
@@ -220,22 +228,34 @@ RADOLAN_GATE = ONE_GATE._replace(latitude=510_000, longitude=100_000)
 RASTER = Radolan(-52_346_220, -465_864_470, 100_000, 900, 900)
 
 
-def in_second_cell(count, quality_sum, value_sum, mean, quality):
-    return Remapped(0, Lent([1, 1], [1, 1], [0, count], [0, quality_sum], [0, value_sum], [65_535, mean], [0, quality]))
+class Expected(NamedTuple):
+    """What is to come of a scan, and of publishing its sums plain and by quality."""
+
+    tallied: Tallied
+    plain: Cells | None = None
+    by_quality: Cells | None = None
+
+
+def in_second_cell(sums, plain, by_quality, quality):
+    """Of two gates in the second of two cells: its sums, its mean plain and by quality, and its quality."""
+    lists = Lent([1, 1], [1, 1], *([0, number] for number in sums))
+    return Expected(Tallied(0, lists), *(Cells([65_535, mean], [0, quality]) for mean in (plain, by_quality)))
 
 
 def in_cell(cell, cells, mark=1):
-    """The lists of a single gate with value 5 and quality 50, plain."""
+    """Of a single gate with value 5 and quality 50."""
 
     def only(number, other=0):
         return [number if place == cell else other for place in range(cells)]
 
-    return Remapped(0, Lent([cell], [mark], only(1), only(50), only(5), only(5, 65_535), only(50)))
+    published = Cells(only(5, 65_535), only(50))
+    return Expected(Tallied(0, Lent([cell], [mark], only(1), only(50), only(5), only(250))), published, published)
 
 
 def outside(cells, mark=1):
     nothing = [0] * cells
-    return Remapped(0, Lent([OUTSIDE], [mark], nothing, nothing, nothing, [65_535] * cells, nothing))
+    published = Cells([65_535] * cells, nothing)
+    return Expected(Tallied(0, Lent([OUTSIDE], [mark], nothing, nothing, nothing, nothing)), published, published)
 
 
 # X less the corner, column and mark, for a side of 10,000,000. Y is far from any line.
@@ -244,18 +264,17 @@ ABOUT_THE_CORNER = (
     *((9_999_949, 0, 0), (9_999_950, 0, 1), (9_999_999, 0, 1), (10_000_000, 1, 1), (10_000_049, 1, 1), (10_000_050, 1, 0)),
 )
 
-REFUSED = {number: Remapped(number, None) for number in range(1, 9)}
+REFUSED = {number: Expected(Tallied(number, None)) for number in range(1, 9)}
 PASSES = None  # the lists are left to the second program
 
 
 def cases():
-    plain = SHEET._replace(by_quality=False)
-    yield "plain 1 and 7: 4", plain, in_second_cell(2, 100, 8, 4, 50)
-    yield "by quality 90 and 10: 1, cell quality 50", SHEET, in_second_cell(2, 100, 160, 1, 50)
-    no_quality = SHEET._replace(qualities=[0, 0])
-    yield "by quality, both 0: 65,535, count 2, quality 0", no_quality, in_second_cell(2, 0, 0, 65_535, 0)
-    yield "no echo and 7, plain: 3", plain._replace(values=[65_534, 7]), in_second_cell(2, 100, 7, 3, 50)
-    yield "not measured and 7, plain: 7", plain._replace(values=[65_535, 7]), in_second_cell(1, 10, 7, 7, 10)
+    title = "plain 1 and 7: 4, by quality 90 and 10: 1, cell quality 50"
+    yield title, SHEET, in_second_cell((2, 100, 8, 160), 4, 1, 50)
+    title = "by quality, both 0: 65,535, count 2, quality 0"
+    yield title, SHEET._replace(qualities=[0, 0]), in_second_cell((2, 0, 8, 0), 4, 65_535, 0)
+    yield "no echo and 7, plain: 3", SHEET._replace(values=[65_534, 7]), in_second_cell((2, 100, 7, 70), 3, 0, 50)
+    yield "not measured and 7: 7", SHEET._replace(values=[65_535, 7]), in_second_cell((1, 10, 7, 70), 7, 7, 10)
 
     last = SHEET._replace(first=45_900_000)
     yield "last centre 46,000,000 passes", last, PASSES
@@ -288,13 +307,20 @@ def cases():
 
 
 def case_differences(compiled, scan, expected):
+    """The tally, and the cells that are published from it in both weightings."""
     lengths = rules.lent_lengths(scan)
-    by_rule = rules.remap(scan, lengths)
+    by_rule = rules.tally(scan, lengths)
     if expected is PASSES:
         lines = [] if by_rule.refusal == 0 else [f"refused with {by_rule.refusal} by the second program"]
         return lines + differences_from(compiled, scan, lengths, by_rule)
-    lines = [] if by_rule == expected else ["the second program answers otherwise"]
-    return lines + differences_from(compiled, scan, lengths, expected)
+    lines = [] if by_rule == expected.tallied else ["the second program answers otherwise"]
+    lists, found = tallied_beside(compiled, scan, lengths, expected.tallied)
+    lines += found
+    for weighting, cells in enumerate((expected.plain, expected.by_quality)):
+        if cells is not None:
+            found = publish_lines(compiled, weighting, lists.sums, cells_of(lists.sums), cells)
+            lines += [f"published with weighting {weighting}: {line}" for line in found]
+    return lines
 
 
 def comparisons():
@@ -307,4 +333,4 @@ def comparisons():
     lines = [
         f"{title}: {line}" for title, scan, expected in chosen for line in case_differences(compiled, scan, expected)
     ]
-    yield f"document 01's cases and T-02's limits as whole scans, {len(chosen)} scans", lines
+    yield f"document 01's cases and T-02's limits, tallied and published in both weightings, {len(chosen)} scans", lines

@@ -6,17 +6,18 @@ from itertools import combinations, cycle, islice, product
 import altered_sums
 import good_sweeps
 import library
+import limit_sums
 import marked_gates
 import wrong_sweeps
 from compare_scan import described
 from good_scans import SEED, SHEET
 from lent_lists import within_margins
-from second_program import scan as scan_rules
+from publish_calls import cells_of, publish_lines
 from second_program.placement import Hrap, Radolan
 from second_program.record import head_of
-from second_program.scan import Lent
+from second_program.scan import Cells
 from second_program.sweep import WIDEST
-from sweep_calls import CELLS, SUMS, Desk, Rays, beside_meant, rays_of
+from sweep_calls import CELLS, HELD, SUMS, Desk, Rays, beside_meant, exact_lengths, rays_of
 from whole_sweeps import whole_sweep
 from wrong_scans import apply
 from wrong_sweeps import ORDER, STAGES
@@ -36,7 +37,7 @@ def state_of(scan, taken, closed=0):
 
 
 def divisions(compiled):
-    draw = random.Random(SEED + 11)
+    draw, differing = random.Random(SEED + 11), Counter()
     for words, chosen, between in (
         ("divided at random, refused operations between", good_sweeps.divided_scans(draw), draw),
         ("by single rays and all at once", good_sweeps.by_ones_and_at_once(draw), None),
@@ -47,8 +48,12 @@ def divisions(compiled):
             course = whole_sweep(compiled, scan, division, between)
             numbers += course.numbers
             lines += course.lines
+            differing[scan.by_quality] += course.sheets_differ()
             sweeps += 1
         yield f"{sweeps} sweeps {words}: {told(numbers)}, seed {SEED}", lines
+    plain, by_quality = (differing[weighting] for weighting in (False, True))
+    lines = [] if plain and by_quality else ["in one of the weightings there is none"]
+    yield f"sweeps among them whose two sheets differ, {plain} closed plain and {by_quality} by quality", lines
 
 
 def at_limits_of_the_mark(compiled):
@@ -131,7 +136,8 @@ def opening(compiled):
             met.add(("open", type(good.grid), *sorted(change.number for change in changes)))
             scan, lengths = apply(good, changes)
             stage = next(stages)
-            desk = Desk(compiled, lengths, stage and state_of(good, stage.taken, stage.closed))
+            # Means and qualities are not lent.
+            desk = Desk(compiled, (*lengths, 0, 0), stage and state_of(good, stage.taken, stage.closed))
             meant = min(change.number for change in changes)
             found = beside_meant(*desk.open(scan), meant)
             numbers[meant] += 1
@@ -146,7 +152,7 @@ def opening(compiled):
 
 def holding(compiled, scan, state, sums):
     """A desk whose sums hold these numbers."""
-    desk = Desk(compiled, scan_rules.lent_lengths(scan), state)
+    desk = Desk(compiled, exact_lengths(scan), state)
     for name, numbers in zip(SUMS, sums):
         for place, number in enumerate(numbers):
             desk.alter(name, place, number)
@@ -215,21 +221,31 @@ def closing_lines(compiled, scan, cells):
 def closings(compiled):
     lines, count = [], 0
     for scan, by_quality in product(wrong_sweeps.SWEEPS, (False, True)):
-        cells = list(altered_sums.cells_to_close(by_quality))
+        cells = list(limit_sums.cells_at_limits(by_quality))
         for start in range(0, len(cells), MOST_CELLS):
             _, found = closing_lines(compiled, scan._replace(by_quality=by_quality), cells[start : start + MOST_CELLS])
             lines += found
         count += len(cells)
     yield f"closing with altered sums, {count} cells at both sides of each limit", lines
-    lines = []
+    lines, by_hand = [], limit_sums.BY_HAND
     for scan, by_quality in product(wrong_sweeps.SWEEPS, (False, True)):
-        cells = [sums for sums, *_ in altered_sums.BY_HAND]
-        desk, found = closing_lines(compiled, scan._replace(by_quality=by_quality), cells)
+        desk, found = closing_lines(compiled, scan._replace(by_quality=by_quality), [sums for sums, *_ in by_hand])
         lines += found
-        for (sums, *published), *got in zip(altered_sums.BY_HAND, *map(desk.numbers, CELLS)):
+        for (sums, *published), *got in zip(by_hand, *map(desk.numbers, CELLS)):
             if tuple(got) != published[by_quality]:
                 lines.append(f"{sums}, by quality {by_quality}: {got} in the library and {published[by_quality]} by hand")
-    yield f"closing with altered sums, {len(altered_sums.BY_HAND)} cells by hand in both weightings on both grids", lines
+        lines += both_sheets_by_hand(compiled, desk)
+    yield f"closing with altered sums, {len(by_hand)} cells by hand in both weightings on both grids, and both sheets", lines
+
+
+def both_sheets_by_hand(compiled, desk):
+    """Once a sweep is closed, each sheet is published from its sums, whatever the weighting that it was opened with."""
+    lines = []
+    for weighting in (0, 1):
+        sheet = Cells(*map(list, zip(*(published[weighting] for _, *published in limit_sums.BY_HAND))))
+        found = publish_lines(compiled, weighting, desk.sums(), cells_of(desk.sums()), sheet)
+        lines += [f"published after closing, weighting {weighting}: {line}" for line in found]
+    return lines
 
 
 # Any operation at any time, with states kept from earlier and numbers altered.
@@ -268,7 +284,7 @@ def any_sequences(compiled):
     numbers, lines = Counter(), []
     scans = [scan for scan in good_sweeps.mixed_scans(draw) if scan.grid.columns * scan.grid.rows <= 400]
     for number, scan in enumerate(islice(cycle(scans), 300)):
-        desk, kept = Desk(compiled, scan_rules.lent_lengths(scan)), []
+        desk, kept = Desk(compiled, exact_lengths(scan)), []
         for step in range(25):
             kept.append(desk.state[:])
             if step > 0 and draw.random() < 0.3:
@@ -309,15 +325,16 @@ def sheet_steps(desk):
 
 
 def by_hand(compiled):
-    desk = Desk(compiled, Lent(6, 6, 2, 2, 2, 2, 2))
-    lent = {name: desk.numbers(name) for name in Lent._fields}
+    desk = Desk(compiled, (6, 6, 2, 2, 2, 2, 2, 2))
+    lent = {name: desk.numbers(name) for name in HELD}
     lines, steps = [], 0
     for words, (number, found), meant, taken, closed in sheet_steps(desk):
-        lists = Lent(
+        lists = (
             [1] * (2 * taken) + lent["ledger"][2 * taken :],
             [1] * (2 * taken) + lent["marks"][2 * taken :],  # X is 0, on a line
             [0, 2 * taken],
             [0, 100 * taken],
+            [0, 8 * taken],
             [0, 160 * taken],
             [65_535, 1] if closed else lent["means"],
             [0, 50] if closed else lent["cell_qualities"],
@@ -325,7 +342,7 @@ def by_hand(compiled):
         found = beside_meant(number, found, meant)
         if within_margins(desk.state) != [*SHEET_HEAD, taken, closed]:
             found.append(f"the state is {within_margins(desk.state)}")
-        for name, numbers in lists._asdict().items():
+        for name, numbers in zip(HELD, lists):
             if desk.numbers(name) != numbers:
                 found.append(f"{name} is {desk.numbers(name)} and {numbers} by hand")
         lines += [f"{words}: {line}" for line in found]

@@ -64,7 +64,7 @@ def example_records():
 
 def cell_rows(scan):
     """Column, row, count, least and greatest of each cell."""
-    lists = rules.remap(scan, rules.lent_lengths(scan)).lists
+    lists = rules.tally(scan, rules.lent_lengths(scan)).lists
     bounds = exact_cells.least_and_greatest(scan, lists.ledger, lists.marks, rules.positions(scan))
     for cell, (count, (least, greatest)) in enumerate(zip(lists.counts, bounds)):
         row, column = divmod(cell, scan.grid.columns)

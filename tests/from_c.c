@@ -1,7 +1,7 @@
 /*
  * The library as a C program calls it: each function of include/uldrevin.h, done and refused, with what is lent looked at each time, and
- * each number of the structs at its place. The numbers expected are document 01's own examples, for a sweep those of the whole scan, and the
- * bytes those of docs/RECORD.md.
+ * each number of the structs at its place. The numbers expected are document 01's own examples, for publishing a table of sums on both
+ * sides of each limit, for a sweep those of the whole scan, and the bytes those of docs/RECORD.md.
  */
 #include <inttypes.h>
 #include <stdio.h>
@@ -111,7 +111,7 @@ static void far_gates(void)
     }
 }
 
-/* ---- whole scans of one ray of two gates on two cells; document 01's example, by quality, and a plain one */
+/* ---- tallies of whole scans of one ray of two gates on two cells; document 01's example, by quality, and a plain one */
 
 static const struct uldrevin_scan hrap = {
     .site = {.latitude = 600000, .longitude = -1050000},
@@ -137,22 +137,24 @@ static const uint8_t qualities[2] = {90, 10};
 
 /* They fill the struct, so that all of it can be compared. */
 struct lists {
+    uint64_t value_sums[2], weighted_sums[2];
     uint32_t ledger[2], counts[2], quality_sums[2];
-    uint64_t value_sums[2];
-    uint16_t means[2];
-    uint8_t marks[2], cell_qualities[2], behind[8];
+    uint8_t marks[2], behind[6];
 };
 
-static uint32_t remap_lists(const struct uldrevin_scan *scan, const uint32_t *azimuths_given, const uint8_t *qualities_given,
-                            size_t ledger_length, size_t marks_length, struct lists *l)
+/* The lengths of the lists that a tally is lent, in the order of the parameters. */
+static const size_t tally_lengths[9] = {1, 2, 2, 2, 2, 2, 2, 2, 2};
+
+static uint32_t tally_with(const struct uldrevin_scan *scan, const uint32_t *azimuths_given, const uint8_t *qualities_given,
+                           const size_t *n, struct lists *l)
 {
-    return uldrevin_remap(scan, azimuths_given, 1, values, 2, qualities_given, 2, l->ledger, ledger_length, l->marks, marks_length,
-                          l->counts, 2, l->quality_sums, 2, l->value_sums, 2, l->means, 2, l->cell_qualities, 2);
+    return uldrevin_tally(scan, azimuths_given, n[0], values, n[1], qualities_given, n[2], l->ledger, n[3], l->marks, n[4],
+                          l->counts, n[5], l->quality_sums, n[6], l->value_sums, n[7], l->weighted_sums, n[8]);
 }
 
-static uint32_t remap(const struct uldrevin_scan *scan, struct lists *l)
+static uint32_t tally(const struct uldrevin_scan *scan, struct lists *l)
 {
-    return remap_lists(scan, azimuths, qualities, 2, 2, l);
+    return tally_with(scan, azimuths, qualities, tally_lengths, l);
 }
 
 /* Lists that hold something else than a scan gives. */
@@ -170,42 +172,133 @@ static int same_lists(const struct lists *one, const struct lists *other)
 
 static int empty(const struct lists *l, int cell)
 {
-    return l->counts[cell] == 0 && l->quality_sums[cell] == 0 && l->value_sums[cell] == 0 && l->means[cell] == ULDREVIN_NO_MEAN
-        && l->cell_qualities[cell] == 0;
+    return l->counts[cell] == 0 && l->quality_sums[cell] == 0 && l->value_sums[cell] == 0 && l->weighted_sums[cell] == 0;
 }
 
-/* Both gates, whose qualities are 90 and 10, lie in the cell. */
-static int both_gates(const struct lists *l, int cell, uint64_t value_sum, uint16_t mean)
+/* Both gates, whose values are 1 and 7 and whose qualities 90 and 10, lie in the cell. */
+static int both_gates(const struct lists *l, int cell)
 {
-    return l->counts[cell] == 2 && l->quality_sums[cell] == 100 && l->value_sums[cell] == value_sum && l->means[cell] == mean
-        && l->cell_qualities[cell] == 50;
+    return l->counts[cell] == 2 && l->quality_sums[cell] == 100 && l->value_sums[cell] == 8 && l->weighted_sums[cell] == 160;
 }
 
 static void scans(void)
 {
     const struct lists held = held_lists();
     struct lists l = held;
-    check("HRAP scan remapped", remap(&hrap, &l) == 0);
+    check("HRAP scan tallied", tally(&hrap, &l) == 0 && memcmp(l.behind, held.behind, sizeof l.behind) == 0);
     check("HRAP ledger", l.ledger[0] == 1 && l.ledger[1] == 1);
     check("HRAP marks", l.marks[0] == 1 && l.marks[1] == 1);
-    check("HRAP cells, by quality", empty(&l, 0) && both_gates(&l, 1, 160, 1));
+    check("HRAP sums", empty(&l, 0) && both_gates(&l, 1));
     l = held;
-    check("RADOLAN scan remapped", remap(&radolan, &l) == 0);
+    check("RADOLAN scan tallied", tally(&radolan, &l) == 0 && memcmp(l.behind, held.behind, sizeof l.behind) == 0);
     check("RADOLAN ledger", l.ledger[0] == 0 && l.ledger[1] == 0);
     check("RADOLAN marks", l.marks[0] == 1 && l.marks[1] == 1);
-    check("RADOLAN cells, plain", both_gates(&l, 0, 8, 4) && empty(&l, 1));
+    check("RADOLAN sums", both_gates(&l, 0) && empty(&l, 1));
     l = held;
     static const uint8_t bad_quality[2] = {90, 101};
     static const uint32_t bad_azimuth[1] = {3600000};
     struct uldrevin_scan no_rays = hrap, no_spacing = hrap, no_side = radolan;
     no_rays.rays = no_spacing.spacing = no_side.grid.side = 0;
-    check("scan of no rays", remap(&no_rays, &l) == 1 && same_lists(&l, &held));
-    check("scan with spacing 0", remap(&no_spacing, &l) == 3 && same_lists(&l, &held));
-    check("scan with a side of 0", remap(&no_side, &l) == 5 && same_lists(&l, &held));
-    check("scan with a short ledger", remap_lists(&hrap, azimuths, qualities, 1, 2, &l) == 6 && same_lists(&l, &held));
-    check("scan with a short list of marks", remap_lists(&hrap, azimuths, qualities, 2, 1, &l) == 6 && same_lists(&l, &held));
-    check("scan with an azimuth of 360 degrees", remap_lists(&radolan, bad_azimuth, qualities, 2, 2, &l) == 7 && same_lists(&l, &held));
-    check("scan with a quality of 101", remap_lists(&hrap, azimuths, bad_quality, 2, 2, &l) == 8 && same_lists(&l, &held));
+    check("scan of no rays", tally(&no_rays, &l) == 1 && same_lists(&l, &held));
+    check("scan with spacing 0", tally(&no_spacing, &l) == 3 && same_lists(&l, &held));
+    check("scan with a side of 0", tally(&no_side, &l) == 5 && same_lists(&l, &held));
+    for (size_t k = 0; k < LENGTH(tally_lengths); k++) {
+        size_t n[LENGTH(tally_lengths)];
+        memcpy(n, tally_lengths, sizeof n);
+        n[k]--;
+        check(with("tally:", "short list", (int64_t)k),
+              tally_with(&hrap, bad_azimuth, bad_quality, n, &l) == 6 && same_lists(&l, &held));
+    }
+    check("scan with an azimuth of 360 degrees",
+          tally_with(&radolan, bad_azimuth, bad_quality, tally_lengths, &l) == 7 && same_lists(&l, &held));
+    check("scan with a quality of 101",
+          tally_with(&hrap, azimuths, bad_quality, tally_lengths, &l) == 8 && same_lists(&l, &held));
+}
+
+/* ---- publishing: the sums of a cell, those that a tally gives and others, and what is published of them in each weighting */
+
+struct published {
+    uint32_t count, quality_sum;
+    uint64_t value_sum, weighted_sum;
+    uint16_t plain, by_quality;
+    uint8_t quality;
+};
+static const struct published table[] = {
+    {0, 0, 0, 0, ULDREVIN_NO_MEAN, ULDREVIN_NO_MEAN, 0},
+    {2, 100, 8, 160, 4, 1, 50},
+    {2, 0, 7, 0, 3, ULDREVIN_NO_MEAN, 0},
+    {0, 0, 8, 160, ULDREVIN_NO_MEAN, ULDREVIN_NO_MEAN, 0},
+    {0, 100, 8, 160, ULDREVIN_NO_MEAN, 1, 0},
+    {1, 0, 8, 160, 8, ULDREVIN_NO_MEAN, 0},
+    {2, 201, UINT64_C(2) * 65534 - 1, UINT64_C(201) * 65534 - 1, 65533, 65533, 100},
+    {2, 202, UINT64_C(2) * 65534, UINT64_C(202) * 65534 - 1, ULDREVIN_NO_MEAN, 65533, 100},
+    {2, 199, UINT64_C(2) * 65534 - 1, UINT64_C(199) * 65534, 65533, ULDREVIN_NO_MEAN, 99},
+    {1, 1, UINT64_C(65536) * 65536, BEYOND + 7, ULDREVIN_NO_MEAN, ULDREVIN_NO_MEAN, 1},
+    {1, 256 + 7, 3, 5, 3, 0, 100},
+    {1, UINT32_MAX, UINT64_MAX, 0, ULDREVIN_NO_MEAN, 0, 100},
+    {UINT32_MAX, 1, 0, UINT64_MAX, 0, ULDREVIN_NO_MEAN, 0},
+    {UINT32_MAX, UINT32_MAX, UINT64_MAX, UINT64_MAX, ULDREVIN_NO_MEAN, ULDREVIN_NO_MEAN, 1},
+};
+#define CELLS LENGTH(table)
+
+/* The sums of the table in lists, and lists to publish into. They fill the struct, so that all of it can be compared. */
+struct sheet {
+    uint64_t value_sums[CELLS], weighted_sums[CELLS];
+    uint32_t counts[CELLS], quality_sums[CELLS];
+    uint16_t means[CELLS];
+    uint8_t cell_qualities[CELLS], behind[8 - 3 * CELLS % 8];
+};
+
+static struct sheet held_sheet(void)
+{
+    struct sheet held;
+    memset(&held, 0xA5, sizeof held);
+    for (size_t cell = 0; cell < CELLS; cell++) {
+        held.counts[cell] = table[cell].count;
+        held.quality_sums[cell] = table[cell].quality_sum;
+        held.value_sums[cell] = table[cell].value_sum;
+        held.weighted_sums[cell] = table[cell].weighted_sum;
+    }
+    return held;
+}
+
+static uint32_t publish_with(int64_t weighting, struct sheet *s, const size_t *n)
+{
+    return uldrevin_publish(weighting, s->counts, n[0], s->quality_sums, n[1], s->value_sums, n[2], s->weighted_sums, n[3],
+                            s->means, n[4], s->cell_qualities, n[5]);
+}
+
+/* The table's first cells are published, and those behind them stay. */
+static void published(int64_t weighting, size_t cells)
+{
+    const size_t n[6] = {cells, cells, cells, cells, cells, cells};
+    struct sheet s = held_sheet(), expected = s;
+    for (size_t cell = 0; cell < cells; cell++) {
+        expected.means[cell] = weighting == 0 ? table[cell].plain : table[cell].by_quality;
+        expected.cell_qualities[cell] = table[cell].quality;
+    }
+    check(with("publish:", "weighting", weighting), publish_with(weighting, &s, n) == 0 && memcmp(&s, &expected, sizeof s) == 0);
+}
+
+/* Any weighting but 0 is by quality. Each list in its turn is one number shorter than the others, or longer. */
+static void publishing(void)
+{
+    static const int64_t weightings[] = {0, 1, 2, -1, BEYOND, INT64_MIN, INT64_MAX};
+    for (size_t k = 0; k < LENGTH(weightings); k++) {
+        const struct sheet held = held_sheet();
+        struct sheet s = held;
+        for (size_t cells = 0; cells <= CELLS; cells++)
+            published(weightings[k], cells);
+        for (size_t list = 0; list < 6; list++) {
+            size_t shorter[6] = {CELLS, CELLS, CELLS, CELLS, CELLS, CELLS}, longer[6] = {0, 0, 0, 0, 0, 0};
+            shorter[list]--;
+            longer[list]++;
+            check(with("publish:", "shorter list", (int64_t)list),
+                  publish_with(weightings[k], &s, shorter) == 6 && memcmp(&s, &held, sizeof s) == 0);
+            check(with("publish:", "longer list", (int64_t)list),
+                  publish_with(weightings[k], &s, longer) == 6 && memcmp(&s, &held, sizeof s) == 0);
+        }
+    }
 }
 
 /* ---- sweeps of two rays of two gates on two cells */
@@ -220,7 +313,7 @@ static const struct rays good = {{0, 900000}, {1, 7, 3, ULDREVIN_NO_ECHO}, {90, 
 /* A sweep and its lists. They fill the struct, so that all of it can be compared. */
 struct swept {
     struct uldrevin_sweep sweep;
-    uint64_t value_sums[2];
+    uint64_t value_sums[2], weighted_sums[2];
     uint32_t ledger[4], counts[2], quality_sums[2];
     uint16_t means[2];
     uint8_t marks[4], cell_qualities[2], behind[6];
@@ -239,11 +332,11 @@ static int same_swept(const struct swept *one, const struct swept *other)
 }
 
 /* The lengths of the lists that are lent, in the order of the parameters. */
-static const size_t open_lengths[3] = {2, 2, 2}, close_lengths[5] = {2, 2, 2, 2, 2};
+static const size_t open_lengths[4] = {2, 2, 2, 2}, close_lengths[6] = {2, 2, 2, 2, 2, 2};
 
 static uint32_t open_with(const struct uldrevin_scan *scan, struct swept *s, const size_t *n)
 {
-    return uldrevin_sweep_open(scan, s->counts, n[0], s->quality_sums, n[1], s->value_sums, n[2], &s->sweep);
+    return uldrevin_sweep_open(scan, s->counts, n[0], s->quality_sums, n[1], s->value_sums, n[2], s->weighted_sums, n[3], &s->sweep);
 }
 
 static uint32_t open_sweep(const struct uldrevin_scan *scan, struct swept *s)
@@ -254,25 +347,33 @@ static uint32_t open_sweep(const struct uldrevin_scan *scan, struct swept *s)
 static uint32_t take_with(struct swept *s, const struct rays *r, size_t first, const size_t *n)
 {
     return uldrevin_sweep_take(&s->sweep, r->azimuths + first, n[0], r->values + 2 * first, n[1], r->qualities + 2 * first, n[2],
-                               s->ledger, n[3], s->marks, n[4], s->counts, n[5], s->quality_sums, n[6], s->value_sums, n[7]);
+                               s->ledger, n[3], s->marks, n[4], s->counts, n[5], s->quality_sums, n[6], s->value_sums, n[7],
+                               s->weighted_sums, n[8]);
 }
 
 /* Takes some of the rays, the first of them by its place among both. */
 static uint32_t take(struct swept *s, const struct rays *r, size_t first, size_t rays)
 {
-    const size_t n[8] = {rays, 2 * rays, 2 * rays, 4, 4, 2, 2, 2};
+    const size_t n[9] = {rays, 2 * rays, 2 * rays, 4, 4, 2, 2, 2, 2};
     return take_with(s, r, first, n);
 }
 
 static uint32_t close_with(struct swept *s, const size_t *n)
 {
-    return uldrevin_sweep_close(&s->sweep, s->counts, n[0], s->quality_sums, n[1], s->value_sums, n[2], s->means, n[3],
-                                s->cell_qualities, n[4]);
+    return uldrevin_sweep_close(&s->sweep, s->counts, n[0], s->quality_sums, n[1], s->value_sums, n[2], s->weighted_sums, n[3],
+                                s->means, n[4], s->cell_qualities, n[5]);
 }
 
 static uint32_t close_sweep(struct swept *s)
 {
     return close_with(s, close_lengths);
+}
+
+/* The cells of the sweep's sums in any weighting. */
+static uint32_t publish_swept(struct swept *s, int64_t weighting)
+{
+    return uldrevin_publish(weighting, s->counts, 2, s->quality_sums, 2, s->value_sums, 2, s->weighted_sums, 2, s->means, 2,
+                            s->cell_qualities, 2);
 }
 
 static struct uldrevin_scan of_two_rays(const struct uldrevin_scan *scan)
@@ -293,23 +394,37 @@ static struct swept sweep_with(const struct uldrevin_scan *scan, size_t rays)
     return s;
 }
 
+/* Both sheets of a closed sweep: all four gates, 1, 7, 3 and 0 with the qualities 90, 10, 60 and 40, lie in the cell. */
+static void both_sheets(const struct swept *closed, int cell)
+{
+    struct swept s = *closed;
+    check("sums of both rays", s.counts[cell] == 4 && s.quality_sums[cell] == 200 && s.value_sums[cell] == 11
+          && s.weighted_sums[cell] == 340);
+    check("the sheet that was closed", publish_swept(&s, s.sweep.scan.weighting) == 0 && same_swept(&s, closed));
+    check("plain sheet", publish_swept(&s, 0) == 0 && s.means[cell] == 2 && s.cell_qualities[cell] == 50);
+    check("quality sheet", publish_swept(&s, 1) == 0 && s.means[cell] == 1 && s.cell_qualities[cell] == 50);
+}
+
 /* The rays one by one, and both at once, give what the whole scan gives. The x of all gates but the last is 0, on a line. */
 static void sweeps(void)
 {
     static const uint8_t marks[4] = {1, 1, 1, 0};
     const struct swept held = held_swept();
-    const struct uldrevin_scan grids[] = {of_two_rays(&hrap), of_two_rays(&radolan)};
+    struct uldrevin_scan grids[] = {of_two_rays(&hrap), of_two_rays(&radolan), of_two_rays(&hrap), of_two_rays(&radolan)};
+    grids[2].weighting = 0;
+    grids[3].weighting = 1;
     for (size_t k = 0; k < LENGTH(grids); k++) {
         struct swept s = sweep_with(&grids[k], 0), expected = held;
         expected.sweep = (struct uldrevin_sweep){grids[k], .taken = 0, .closed = 0};
         memset(expected.counts, 0, sizeof expected.counts);
         memset(expected.quality_sums, 0, sizeof expected.quality_sums);
         memset(expected.value_sums, 0, sizeof expected.value_sums);
+        memset(expected.weighted_sums, 0, sizeof expected.weighted_sums);
         check("sweep as opened", same_swept(&s, &expected));
 
-        check("whole scan remapped", uldrevin_remap(&grids[k], good.azimuths, 2, good.values, 4, good.qualities, 4, expected.ledger, 4,
-              expected.marks, 4, expected.counts, 2, expected.quality_sums, 2, expected.value_sums, 2, expected.means, 2,
-              expected.cell_qualities, 2) == 0);
+        check("whole scan tallied", uldrevin_tally(&grids[k], good.azimuths, 2, good.values, 4, good.qualities, 4, expected.ledger, 4,
+              expected.marks, 4, expected.counts, 2, expected.quality_sums, 2, expected.value_sums, 2, expected.weighted_sums, 2) == 0);
+        check("whole scan published", publish_swept(&expected, grids[k].weighting) == 0);
         check("its marks", memcmp(expected.marks, marks, sizeof marks) == 0);
         check("first ray taken", take(&s, &good, 0, 1) == 0 && s.sweep.taken == 1);
         check("its ledger", memcmp(s.ledger, expected.ledger, 2 * sizeof *s.ledger) == 0);
@@ -325,6 +440,7 @@ static void sweeps(void)
         check("sweep as the whole scan", same_swept(&s, &expected));
         struct swept at_once = sweep_with(&grids[k], 2);
         check("both rays at once", close_sweep(&at_once) == 0 && same_swept(&at_once, &expected));
+        both_sheets(&s, grids[k].grid.kind == ULDREVIN_KIND_HRAP ? 1 : 0);
     }
 }
 
@@ -379,20 +495,20 @@ static void short_sweep_lists(void)
     struct rays bad = good;
     bad.azimuths[0] = 3600000;
     struct swept s = held;
-    for (size_t k = 0; k < 3; k++) {
-        size_t n[3] = {2, 2, 2};
+    for (size_t k = 0; k < 4; k++) {
+        size_t n[4] = {2, 2, 2, 2};
         n[k]--;
         check(with("open:", "short list", (int64_t)k), open_with(&scan, &s, n) == 6 && same_swept(&s, &held));
     }
     s = none;
-    for (size_t k = 0; k < 8; k++) {
-        size_t n[8] = {2, 4, 4, 4, 4, 2, 2, 2};
+    for (size_t k = 0; k < 9; k++) {
+        size_t n[9] = {2, 4, 4, 4, 4, 2, 2, 2, 2};
         n[k]--;
         check(with("take:", "short list", (int64_t)k), take_with(&s, &bad, 0, n) == 6 && same_swept(&s, &none));
     }
     s = both;
-    for (size_t k = 0; k < 5; k++) {
-        size_t n[5] = {2, 2, 2, 2, 2};
+    for (size_t k = 0; k < 6; k++) {
+        size_t n[6] = {2, 2, 2, 2, 2, 2};
         n[k]--;
         check(with("close:", "short list", (int64_t)k), close_with(&s, n) == 6 && same_swept(&s, &both));
         s.sweep.taken = 1;
@@ -401,41 +517,61 @@ static void short_sweep_lists(void)
     }
 }
 
-/* A count, a quality sum and a value sum of the cell of both rays, which a caller has altered. */
-static struct swept with_sums(size_t rays, uint32_t count, uint32_t quality_sum, uint64_t value_sum)
+/* The four sums of the cell of both rays, which a caller has altered. */
+static struct swept with_sums(int64_t weighting, size_t rays, uint32_t count, uint32_t quality_sum, uint64_t value_sum,
+                              uint64_t weighted_sum)
 {
-    struct swept s = sweep_with(&hrap, rays);
+    struct uldrevin_scan scan = hrap;
+    scan.weighting = weighting;
+    struct swept s = sweep_with(&scan, rays);
     s.counts[1] = count;
     s.quality_sums[1] = quality_sum;
     s.value_sums[1] = value_sum;
+    s.weighted_sums[1] = weighted_sum;
     return s;
 }
 
-/* The good rays have four gates, qualities of 200 and products of 1 x 90 + 7 x 10 + 3 x 60 in the cell. */
-static void altered_sums(void)
+/*
+ * The good rays have four gates, qualities of 200, values of 1 + 7 + 3 and products of 1 x 90 + 7 x 10 + 3 x 60 in the cell. All sums grow,
+ * and 31 is for each of them, in either weighting.
+ */
+static void full_sums(int64_t weighting)
 {
     static const uint32_t most_count = UINT32_MAX - 4, most_quality = UINT32_MAX - 200;
-    static const uint64_t most_value = UINT64_MAX - 340;
+    static const uint64_t most_value = UINT64_MAX - 11, most_weighted = UINT64_MAX - 340;
     struct rays bad_quality = good;
     bad_quality.qualities[3] = 101;
-    struct swept s = with_sums(0, most_count, most_quality, most_value);
+    struct swept s = with_sums(weighting, 0, most_count, most_quality, most_value, most_weighted);
     check("sums that become full", take(&s, &good, 0, 2) == 0 && s.counts[1] == UINT32_MAX && s.quality_sums[1] == UINT32_MAX
-          && s.value_sums[1] == UINT64_MAX);
-    s = with_sums(0, most_count + 1, 0, 0);
+          && s.value_sums[1] == UINT64_MAX && s.weighted_sums[1] == UINT64_MAX);
+    s = with_sums(weighting, 0, most_count + 1, 0, 0, 0);
     take_refused("a count over 32 bits", &s, &good, 0, 2, 31);
     take_refused("a quality of 101 and a count over 32 bits", &s, &bad_quality, 0, 2, 8);
-    s = with_sums(0, 0, most_quality + 1, 0);
+    s = with_sums(weighting, 0, 0, most_quality + 1, 0, 0);
     take_refused("a quality sum over 32 bits", &s, &good, 0, 2, 31);
-    s = with_sums(0, 0, 0, most_value + 1);
+    s = with_sums(weighting, 0, 0, 0, most_value + 1, 0);
     take_refused("a value sum over 64 bits", &s, &good, 0, 2, 31);
-    s = with_sums(2, 2, 201, UINT64_C(201) * 65534 - 1);
-    check("a mean of 65,533 and a quality of 100", close_sweep(&s) == 0 && s.means[1] == 65533 && s.cell_qualities[1] == 100);
-    s = with_sums(2, 2, 202, UINT64_C(202) * 65534);
-    check("a mean of 65,534 and a quality of 101", close_sweep(&s) == 0 && s.means[1] == ULDREVIN_NO_MEAN && s.cell_qualities[1] == 100);
-    s = with_sums(2, 0, UINT32_MAX, UINT64_MAX);
-    check("a quality sum without a gate", close_sweep(&s) == 0 && s.means[1] == ULDREVIN_NO_MEAN && s.cell_qualities[1] == 0);
-    s = with_sums(2, 1, 0, UINT64_MAX);
-    check("a value sum without a quality", close_sweep(&s) == 0 && s.means[1] == ULDREVIN_NO_MEAN && s.cell_qualities[1] == 0);
+    s = with_sums(weighting, 0, 0, 0, 0, most_weighted + 1);
+    take_refused("a weighted sum over 64 bits", &s, &good, 0, 2, 31);
+}
+
+/* Closing publishes any sums in the weighting of the sweep. */
+static void altered_sums(void)
+{
+    static const int64_t weightings[] = {0, 1};
+    for (size_t k = 0; k < LENGTH(weightings); k++) {
+        full_sums(weightings[k]);
+        for (size_t row = 0; row < CELLS; row++) {
+            const struct published *p = &table[row];
+            struct swept s = with_sums(weightings[k], 2, p->count, p->quality_sum, p->value_sum, p->weighted_sum), expected = s;
+            expected.means[0] = ULDREVIN_NO_MEAN;
+            expected.means[1] = weightings[k] == 0 ? p->plain : p->by_quality;
+            expected.cell_qualities[0] = 0;
+            expected.cell_qualities[1] = p->quality;
+            expected.sweep.closed = 1;
+            check(with("closed:", "row of the table", (int64_t)row), close_sweep(&s) == 0 && same_swept(&s, &expected));
+        }
+    }
 }
 
 /* Any number but 0 is closed, and any number of rays taken has an answer. */
@@ -673,7 +809,7 @@ static void refused(const char *what, const struct uldrevin_scan *scan, uint32_t
     none.sweep = s.sweep = (struct uldrevin_sweep){*scan, .taken = 0, .closed = 0};
     check_call("take", what, take(&s, &good, 0, 1) == rule && same_swept(&s, &none));
     check_call("close", what, close_sweep(&s) == rule && same_swept(&s, &none));
-    check_call("remap", what, remap(scan, &l) == rule && same_lists(&l, &held));
+    check_call("tally", what, tally(scan, &l) == rule && same_lists(&l, &held));
     check_call("write", what, write_record(scan, &b) == rule && same_buffer(&b, &unwritten));
     if (rule == 4 || rule == 5)
         check_call("place", what, place(&scan->site, &scan->grid, 0, 0, &p) == rule && same_place(p, before));
@@ -727,7 +863,7 @@ static uint32_t sweep_again(const struct uldrevin_scan *scan, struct swept *s)
     return refusal == 0 ? close_sweep(s) : refusal;
 }
 
-/* Both scans give the same cells, the same sweep and the same record. The other has its numbers as they are written. */
+/* Both scans give the same tally, the same sweep and the same record. The other has its numbers as they are written. */
 static void same_answers(const char *what, const struct uldrevin_scan *one, const struct uldrevin_scan *other)
 {
     const struct uldrevin_scan given = of_two_rays(one), written = of_two_rays(other);
@@ -738,17 +874,19 @@ static void same_answers(const char *what, const struct uldrevin_scan *one, cons
     s.sweep.scan = given;
     check_call("take", what, take(&s, &good, 0, 1) == 0 && same_scan(&s.sweep.scan, &written));
     check_call("sweep", what, sweep_again(one, &s) == 0 && sweep_again(other, &expected) == 0 && same_swept(&s, &expected));
-    check_call("remap", what, remap(one, &l) == 0 && remap(other, &expected_lists) == 0 && same_lists(&l, &expected_lists));
+    check_call("tally", what, tally(one, &l) == 0 && tally(other, &expected_lists) == 0 && same_lists(&l, &expected_lists));
     check_call("write", what,
                write_record(one, &b) == 0 && write_record(other, &expected_buffer) == 0 && same_buffer(&b, &expected_buffer));
 }
 
-/* Any weighting but 0 is by quality. */
+/* Any weighting but 0 is by quality, and none plays a part in a tally. */
 static void weightings(void)
 {
     static const int64_t by_quality[] = {-1, 2, BEYOND, INT64_MIN, INT64_MAX};
     struct uldrevin_scan weighted = radolan;
     weighted.weighting = 1;
+    struct lists l = held_lists(), expected = l;
+    check("tally: plain and by quality", tally(&radolan, &expected) == 0 && tally(&weighted, &l) == 0 && same_lists(&l, &expected));
     for (size_t k = 0; k < LENGTH(by_quality); k++) {
         struct uldrevin_scan on_hrap = hrap, on_radolan = radolan;
         on_hrap.weighting = on_radolan.weighting = by_quality[k];
@@ -778,6 +916,7 @@ int main(void)
     gates();
     far_gates();
     scans();
+    publishing();
     sweeps();
     sweeps_refused();
     short_sweep_lists();

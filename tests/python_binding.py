@@ -126,27 +126,43 @@ def placements_of(scan, gates_in_ray):
     return [uldrevin.place(scan.site, scan.grid, azimuth, centre) for azimuth in flat(scan.azimuths) for centre in centres]
 
 
-def tally(scan, ledger):
-    """Counts, quality sums and value sums by the ledger."""
-    cells = scan.grid.columns * scan.grid.rows
-    counts, quality_sums, value_sums = [0] * cells, [0] * cells, [0] * cells
+def tally_of(scan):
+    """The tally of a scan, which has no weighting."""
+    return uldrevin.tally(*scan[:2], *scan[3:])
+
+
+def plain_tally(tally):
+    return plain_lists([tally.ledger, tally.marks, *tally.sums])
+
+
+def sums_by_ledger(scan, ledger):
+    """Counts, quality sums, value sums and weighted sums."""
+    sums = [[0] * (scan.grid.columns * scan.grid.rows) for _ in range(4)]
     for cell, value, quality in zip(ledger, flat(scan.values), flat(scan.qualities)):
         if cell == OUTSIDE or value == NOT_MEASURED:
             continue
-        counts[cell] += 1
-        quality_sums[cell] += quality
-        value_sums[cell] += (0 if value == NO_ECHO else value) * (quality if scan.weighting == BY_QUALITY else 1)
-    return counts, quality_sums, value_sums
+        rain = 0 if value == NO_ECHO else value
+        for own, number in zip(sums, (1, quality, rain, rain * quality)):
+            own[cell] += number
+    return sums
 
 
-def expected_lists(scan, placements):
+def expected_tally(scan, placements):
     ledger = [OUTSIDE if placement.cell is None else placement.cell for placement in placements]
     marks = [int(marked(scan.grid, placement)) for placement in placements]
-    counts, quality_sums, value_sums = tally(scan, ledger)
-    divisors = quality_sums if scan.weighting == BY_QUALITY else counts
-    means = [value_sum // divisor if divisor else NO_MEAN for value_sum, divisor in zip(value_sums, divisors)]
-    qualities = [quality_sum // count if count else 0 for quality_sum, count in zip(quality_sums, counts)]
-    return [ledger, marks, counts, quality_sums, value_sums, means, qualities]
+    return [ledger, marks, *sums_by_ledger(scan, ledger)]
+
+
+def expected_mean(dividend, divisor):
+    """Document 01's mean, and document 02's where it would be too great."""
+    mean = dividend // divisor if divisor else NO_MEAN
+    return mean if mean <= 65_533 else NO_MEAN
+
+
+def expected_cells(weighting, counts, quality_sums, value_sums, weighted_sums):
+    pairs = zip(value_sums, counts) if weighting == PLAIN else zip(weighted_sums, quality_sums)
+    means = [expected_mean(*pair) for pair in pairs]
+    return [means, [min(100, quality_sum // count) if count else 0 for quality_sum, count in zip(quality_sums, counts)]]
 
 
 def scans(checks):
@@ -155,11 +171,17 @@ def scans(checks):
         placements = placements_of(scan, head.gates)
         for placement in placements:
             checks.equal(f"the mark of {placement} of {name}", placement.mark, marked(scan.grid, placement))
+        tally, expected = tally_of(scan), expected_tally(scan, placements)
+        for part, got, wanted in zip(("ledger", "marks", *uldrevin.Sums._fields), plain_tally(tally), expected):
+            checks.equal(f"{part} of {name}", got, wanted)
         for weighting in (PLAIN, BY_QUALITY):
-            asked = scan._replace(weighting=weighting)
-            expected = expected_lists(asked, placements)
-            for part, got, wanted in zip(uldrevin.Remapped._fields, plain_lists(uldrevin.remap(*asked)), expected):
-                checks.equal(f"{part} of {name}, weighting {weighting}", got, wanted)
+            cells = expected_cells(weighting, *expected[2:])
+            checks.equal(f"cells of {name}, weighting {weighting}", plain_lists(uldrevin.publish(weighting, *tally.sums)), cells)
+            remapped = uldrevin.remap(*scan._replace(weighting=weighting))
+            for part, got, wanted in zip(uldrevin.Remapped._fields, plain_lists(remapped), [*expected, *cells]):
+                checks.equal(f"{part} of {name}, remapped with weighting {weighting}", got, wanted)
+            checks.equal(f"the sums of {name}, remapped with weighting {weighting}", plain_lists(remapped.sums), expected[2:])
+        checks.equal(f"the sums of {name} after publishing", plain_lists(tally.sums), expected[2:])
     crossing = uldrevin.read_record(RECORDS[2][1])
     ledger, marks, *_ = plain_lists(uldrevin.remap(*crossing))
     met = {(cell == OUTSIDE, mark) for cell, mark in zip(ledger, marks)}
@@ -191,9 +213,10 @@ def forms_of_lists(checks):
     for name, lists in forms.items():
         asked = uldrevin.Scan(*scan[:5], *lists)
         checks.equal(f"a scan from {name}", plain_lists(uldrevin.remap(*asked)), expected)
+        checks.equal(f"a tally from {name}", plain_tally(tally_of(asked)), expected[:6])
         checks.equal(f"a record from {name}", uldrevin.write_record(*asked), data)
     small = EXAMPLE._replace(azimuths=iter([0]), values=bytes([1, 7]), qualities=range(90, 9, -80))
-    checks.equal("a scan from an iterator, bytes and a range", flat(uldrevin.remap(*small).value_sums), [0, 1 * 90 + 7 * 10])
+    checks.equal("a scan from an iterator, bytes and a range", flat(uldrevin.remap(*small).weighted_sums), [0, 1 * 90 + 7 * 10])
     checks.equal("the given lists afterwards", [flat(numbers) for numbers in scan[5:]], plain)
 
 
@@ -216,15 +239,156 @@ def numpy_forms(azimuths, values, qualities):
 def kinds_of_lists(checks):
     """What comes back is typed, and with numpy shaped."""
     scan = uldrevin.read_record(RECORDS[0][1])
-    lists = [*scan[5:], *uldrevin.remap(*scan)]
-    letters = "IHBIBIIQHB"
+    tally = tally_of(scan)
+    lists = [*scan[5:], *uldrevin.remap(*scan), tally.ledger, tally.marks, *tally.sums, *uldrevin.publish(PLAIN, *tally.sums)]
+    letters = "IHB" + "IBIIQQHB" * 2
+    checks.equal("the kinds of a tally and of its sums", (type(tally), type(tally.sums)), (uldrevin.Tally, uldrevin.Sums))
     if numpy is None:
         checks.equal("the types of arrays", [numbers.typecode for numbers in lists], list(letters))
         return
     checks.equal("the dtypes", [numbers.dtype for numbers in lists], [numpy.dtype(letter) for letter in letters])
     by_gate, by_cell = (12, 20), (5, 6)
-    shapes = [(12,), *[by_gate] * 4, *[by_cell] * 5]
+    shapes = [(12,), *[by_gate] * 4, *[by_cell] * 6, *[by_gate] * 2, *[by_cell] * 6]
     checks.equal("the shapes", [numbers.shape for numbers in lists], shapes)
+
+
+# Publishing, from sums that a tally gives and from others.
+
+# Sums of a cell, on both sides of each limit.
+SUMS = [
+    (0, 0, 0, 0),
+    (2, 100, 8, 160),
+    (2, 0, 7, 0),
+    (0, 0, 8, 160),
+    (0, 100, 8, 160),
+    (1, 100, 65_533, 65_533 * 100),
+    (1, 101, 65_534, 65_534 * 101 - 1),
+    (2, 201, 2 * 65_534 - 1, 65_534 * 201),
+    (2, 202, 2 * 65_534, 65_534 * 202 - 1),
+    (3, 299, 2**32, 2**32 + 7),
+    (1, 2**32 - 1, 2**64 - 1, 0),
+    (2**32 - 1, 1, 0, 2**64 - 1),
+    (2**32 - 1, 2**32 - 1, 2**64 - 1, 2**64 - 1),
+]
+
+
+def sums_of_cells(cells):
+    """The first so many of the sums, as four lists."""
+    return [[sums[place] for sums in SUMS[:cells]] for place in range(4)]
+
+
+def publishing(checks):
+    """Any sums, of any number of cells, in any weighting."""
+    for weighting in (PLAIN, BY_QUALITY, 2, -1, 2**32, -(2**63), 2**63 - 1):
+        for cells in range(len(SUMS) + 1):
+            lists = sums_of_cells(cells)
+            expected = expected_cells(weighting, *lists)
+            checks.equal(f"{cells} cells, weighting {weighting}", plain_lists(uldrevin.publish(weighting, *lists)), expected)
+    expected = [[NO_MEAN, 4, 3, NO_MEAN, NO_MEAN, 65_533, NO_MEAN], [0, 50, 0, 0, 0, 100, 100]]
+    checks.equal("plain means and qualities", plain_lists(uldrevin.publish(PLAIN, *sums_of_cells(7))), expected)
+    expected = [[NO_MEAN, 1, NO_MEAN, NO_MEAN, 1, 65_533, 65_533], [0, 50, 0, 0, 0, 100, 100]]
+    checks.equal("means and qualities by quality", plain_lists(uldrevin.publish(BY_QUALITY, *sums_of_cells(7))), expected)
+
+
+def forms_of_sums(checks):
+    """The same sums in lists of every form give the same cells, of the shape that the sums have."""
+    plain = sums_of_cells(12)
+    forms = {
+        "flat lists": plain,
+        "arrays": [array(letter, numbers) for letter, numbers in zip("IIQQ", plain)],
+        "arrays of other types": [array("Q", numbers) for numbers in plain],
+        "tuples": [tuple(numbers) for numbers in plain],
+    }
+    shaped = {} if numpy is None else numpy_sums(plain)
+    for weighting in (PLAIN, BY_QUALITY):
+        expected = expected_cells(weighting, *plain)
+        for name, lists in {**forms, **shaped}.items():
+            cells = uldrevin.publish(weighting, *lists)
+            checks.equal(f"cells from {name}, weighting {weighting}", plain_lists(cells), expected)
+            kinds_of_cells(checks, name, cells, (3, 4) if name in shaped else (12,))
+        cells = uldrevin.publish(weighting, *(iter(numbers) for numbers in plain))
+        checks.equal(f"cells from iterators, weighting {weighting}", plain_lists(cells), expected)
+    checks.equal("the given sums afterwards", [list(numbers) for numbers in forms["arrays"]], plain)
+
+
+def kinds_of_cells(checks, name, cells, shape):
+    """Published cells are typed, and with numpy shaped."""
+    checks.equal(f"the kind of cells from {name}", type(cells), uldrevin.Cells)
+    if numpy is None:
+        checks.equal(f"the types of cells from {name}", [numbers.typecode for numbers in cells], ["H", "B"])
+        return
+    checks.equal(f"the dtypes of cells from {name}", [numbers.dtype for numbers in cells], [numpy.dtype(letter) for letter in "HB"])
+    checks.equal(f"the shapes of cells from {name}", [numbers.shape for numbers in cells], [shape] * 2)
+
+
+def numpy_sums(plain):
+    """Sums of three rows and four columns."""
+    dtypes = ("uint32", "uint32", "uint64", "uint64")
+    arrays = [numpy.array(numbers, dtype).reshape(3, 4) for numbers, dtype in zip(plain, dtypes)]
+    read_only = [numbers.copy() for numbers in arrays]
+    for numbers in read_only:
+        numbers.flags.writeable = False
+    return {
+        "numpy arrays": arrays,
+        "numpy arrays that are only to be read": read_only,
+        "numpy arrays by column": [numpy.asfortranarray(numbers) for numbers in arrays],
+        "parts of numpy arrays": [numpy.repeat(numbers, 2, 1)[:, ::2] for numbers in arrays],
+        "a numpy array of counts and lists": [arrays[0], *plain[1:]],
+        "lists and a numpy array of weighted sums": [*plain[:3], arrays[3]],
+    }
+
+
+def publishing_refusals(checks):
+    """6 for lists that are not equally long."""
+    for place in range(4):
+        for change in (-1, 1, 1_000):
+            lists = sums_of_cells(2)
+            lists[place] = [1] * (2 + change)
+            checks.refused(6, f"2 cells, {change} in list {place}", lambda: uldrevin.publish(PLAIN, *lists))
+        alone = [[1] if place == other else [] for other in range(4)]
+        checks.refused(6, f"no cells, one number in list {place}", lambda: uldrevin.publish(BY_QUALITY, *alone))
+    if numpy is not None:
+        dtypes = ("uint32", "uint32", "uint64", "uint64")
+        for place in range(4):
+            lists = [numpy.ones((2, 4 if place == other else 3), dtype) for other, dtype in enumerate(dtypes)]
+            checks.refused(6, f"a column more in list {place}", lambda: uldrevin.publish(PLAIN, *lists))
+
+
+def sums_not_taken(checks):
+    good = dict(zip(uldrevin.Sums._fields, sums_of_cells(2)))
+    wrong = [
+        (ValueError, "counts holds -1 at place 1", {"counts": [2, -1]}),
+        (ValueError, "counts holds 4294967296 at place 0", {"counts": [2**32, 2]}),
+        (ValueError, "quality_sums holds 4294967296 at place 1", {"quality_sums": array("Q", [0, 2**32])}),
+        (ValueError, "value_sums holds 18446744073709551616 at place 0", {"value_sums": [2**64, 0]}),
+        (ValueError, "weighted_sums holds -160 at place 1", {"weighted_sums": [0, -160]}),
+        (ValueError, "weighting is 9223372036854775808", {"weighting": 2**63}),
+        (TypeError, "weighting has to be a whole number", {"weighting": 1.0}),
+        (TypeError, "weighting has to be a whole number", {"weighting": None}),
+        (TypeError, "counts must be a list of whole numbers, and is 2", {"counts": 2}),
+        (TypeError, "quality_sums must hold whole numbers", {"quality_sums": [0.0, 100.0]}),
+        (TypeError, "value_sums must hold whole numbers", {"value_sums": [[0, 8]]}),
+        (TypeError, "weighted_sums must be a list of whole numbers, and is None", {"weighted_sums": None}),
+    ]
+    if numpy is not None:
+        wrong += numpy_sums_not_taken()
+    for kind, words, change in wrong:
+        given = {"weighting": PLAIN} | good | change
+        checks.raised(kind, words, f"publish with {change}", lambda: uldrevin.publish(**given))
+
+
+def numpy_sums_not_taken():
+    row = {name: numpy.ones((1, 2), dtype) for name, dtype in zip(uldrevin.Sums._fields, ("uint32", "uint32", "uint64", "uint64"))}
+    return [
+        (TypeError, "counts must have the dtype uint32, and has int64", {"counts": numpy.array([[0, 2]])}),
+        (TypeError, "quality_sums must have the dtype uint32, and has uint64", {"quality_sums": row["value_sums"]}),
+        (TypeError, "value_sums must have the dtype uint64, and has uint32", {"value_sums": row["counts"]}),
+        (TypeError, "weighted_sums must not be a masked array", {"weighted_sums": numpy.ma.array(row["weighted_sums"])}),
+        (ValueError, "counts must have a shape (rows, columns), and has (2,)", {"counts": row["counts"][0]}),
+        (ValueError, "counts have the shape (1, 2) and weighted_sums (2, 1)", row | {"weighted_sums": row["weighted_sums"].T}),
+        (ValueError, "value_sums have the shape (1, 2) and weighted_sums (2, 1)",
+         {"value_sums": row["value_sums"], "weighted_sums": row["weighted_sums"].T}),
+    ]
 
 
 # Other threads.
@@ -257,20 +421,16 @@ class Meddled:
 
 
 def held_arrays(checks):
-    """The given arrays are held during each of the two calls that these functions make, and free once they have returned or raised."""
+    """The given arrays are held during each call that these functions make with them, and free once they have returned or raised."""
     library = uldrevin._library
     wrong = EXAMPLE._replace(spacing=0)
-    for function, scan, calls in (
-        (uldrevin.remap, EXAMPLE, 2),
-        (uldrevin.write_record, EXAMPLE, 2),
-        (uldrevin.remap, wrong, 1),
-        (uldrevin.write_record, wrong, 1),
-    ):
+    for name, scan, calls in (("tally", EXAMPLE, 2), ("write_record", EXAMPLE, 2), ("tally", wrong, 1), ("write_record", wrong, 1)):
         lists = [array(letter, numbers) for letter, numbers in zip("IHB", scan[5:])]
+        given = (*scan[:2], *scan[3:5], *lists) if name == "tally" else (*scan[:5], *lists)
         uldrevin._library = meddled = Meddled(library, lists)
-        what = f"{function.__name__} with spacing {scan.spacing}"
+        what = f"{name} with spacing {scan.spacing}"
         try:
-            ended = function(*scan[:5], *lists)
+            ended = getattr(uldrevin, name)(*given)
         except uldrevin.Refusal as refusal:
             ended = refusal  # kept, since its traceback keeps the function's variables
         finally:
@@ -280,6 +440,20 @@ def held_arrays(checks):
         meddled.told.clear()
         meddled.lengthen()
         checks.equal(f"{what}, the arrays afterwards", meddled.told, ["lengthened"] * 3)
+
+
+def held_sums(checks):
+    """Given arrays of sums are held while cells are published."""
+    library, lists = uldrevin._library, [array(letter, numbers) for letter, numbers in zip("IIQQ", sums_of_cells(2))]
+    uldrevin._library = meddled = Meddled(library, lists)
+    try:
+        uldrevin.publish(PLAIN, *lists)
+    finally:
+        uldrevin._library = library
+    checks.equal("sums during publishing", meddled.told, ["held"] * 4)
+    meddled.told.clear()
+    meddled.lengthen()
+    checks.equal("sums after publishing", meddled.told, ["lengthened"] * 4)
 
 
 # Sweeps.
@@ -328,6 +502,9 @@ def sweeps(checks):
                 expected = plain_lists(uldrevin.remap(*scan))
                 checks.equal(f"{what}, closed", plain_lists(sweep.close()), expected)
                 checks.equal(f"{what}, the sweep itself", held_by(sweep), [head.rays, True, *expected])
+                for asked in (PLAIN, BY_QUALITY):
+                    cells = plain_lists(uldrevin.publish(asked, *sweep.sums))
+                    checks.equal(f"{what}, its sheet with weighting {asked}", cells, expected_cells(asked, *expected[2:6]))
 
 
 def forms_of_rays(checks):
@@ -369,7 +546,9 @@ def swept_lists(checks):
             checks.equal(f"the numbers of a sweep's {name}", own.typecode, expected.typecode)
         else:
             checks.equal(f"the dtype and shape of a sweep's {name}", (own.dtype, own.shape), (expected.dtype, expected.shape))
-    for name in (*whole._fields, "head", "taken", "closed"):
+    for name, own in sweep.sums._asdict().items():
+        checks.note(own is getattr(sweep, name), f"the {name} among a sweep's sums are another list than its own")
+    for name in (*whole._fields, "sums", "head", "taken", "closed"):
         checks.raised(AttributeError, "", f"a sweep's {name}, set", lambda: setattr(sweep, name, getattr(sweep, name)))
 
 
@@ -381,7 +560,7 @@ def fresh_lists(checks):
     swept, held = sweep.close(), plain_lists(first)
     checks.equal("the marks of two scans", [flat(uldrevin.remap(*scan).marks) for scan in (EXAMPLE, other)], [[1, 1], [0, 0]])
     again = opened(other, 1, 2)
-    checks.equal("a second sweep", held_by(again), [0, False, [OUTSIDE] * 2, *[[0, 0]] * 4, [NO_MEAN] * 2, [0, 0]])
+    checks.equal("a second sweep", held_by(again), [0, False, [OUTSIDE] * 2, *[[0, 0]] * 5, [NO_MEAN] * 2, [0, 0]])
     again.take(*other[5:])
     checks.equal("the lists of the first scan", plain_lists(first), held)
     checks.equal("the lists of the first sweep", plain_lists(swept), held)
@@ -431,7 +610,7 @@ def held_rays(checks):
     """During a call the given arrays are held, and so are the sweep's own, and another thread's ray waits."""
     library, sweep = uldrevin._library, opened(EXAMPLE, 2, 2)
     lists = [array(letter, numbers) for letter, numbers in zip("IHB", EXAMPLE[5:])]
-    own = [] if numpy is not None else [sweep.ledger, sweep.marks, sweep.counts, sweep.quality_sums, sweep.value_sums]
+    own = [] if numpy is not None else [sweep.ledger, sweep.marks, *sweep.sums]
     uldrevin._library = meddled = Meddled(library, [*lists, *own])
     try:
         sweep.take(*lists)
@@ -511,43 +690,51 @@ def sweep_refusals(checks):
 
 def lengthened_lists(checks):
     """Without numpy a caller can lengthen a list of the sweep, and it is refused."""
-    for name in ("ledger", "marks", "counts", "quality_sums", "value_sums"):
+    for name in ("ledger", "marks", *uldrevin.Sums._fields):
         sweep = opened(EXAMPLE, 1, 2)
         getattr(sweep, name).append(0)
         sweep_refused(checks, 6, f"a sweep with a longer list of {name}", sweep, lambda: sweep.take(*EXAMPLE[5:]))
 
 
-def with_sums(*sums):
-    """A sweep for document 01's ray, whose caller has written a count, a quality sum and a value sum to the cell of its gates."""
-    sweep = opened(EXAMPLE, 1, 2)
-    for own, number in zip((sweep.counts, sweep.quality_sums, sweep.value_sums), sums):
+def alter(sweep, sums):
+    """Writes the four sums of the second cell, where the gates of document 01's ray lie."""
+    for own, number in zip(sweep.sums, sums):
         own[1 if numpy is None else (0, 1)] = number
+
+
+def with_sums(weighting, sums):
+    """A sweep for that ray, whose caller has altered these sums."""
+    sweep = opened(EXAMPLE._replace(weighting=weighting), 1, 2)
+    alter(sweep, sums)
     return sweep
 
 
-def altered_sums(checks):
-    """31 just where a sum would pass its width; what is published of sums that no ray gives."""
-    room = (2**32 - 1 - 2, 2**32 - 1 - 100, 2**64 - 1 - 160)
-    for place in range(3):
-        most = [limit if place == k else 0 for k, limit in enumerate(room)]
-        full, over = with_sums(*most), with_sums(*(number + (place == k) for k, number in enumerate(most)))
+GROWTH = (2, 100, 8, 160)  # of these sums by the ray
+LIMITS = (2**32 - 1, 2**32 - 1, 2**64 - 1, 2**64 - 1)
+
+
+def full_sums(checks, weighting):
+    """31 just where a sum would pass its width, whatever the weighting."""
+    for place in range(4):
+        most = [limit - growth if place == k else 0 for k, (limit, growth) in enumerate(zip(LIMITS, GROWTH))]
+        full, over = with_sums(weighting, most), with_sums(weighting, [number + (place == k) for k, number in enumerate(most)])
         full.take(*EXAMPLE[5:])
-        sums = [flat(own)[1] for own in (full.counts, full.quality_sums, full.value_sums)]
-        checks.equal(f"sums that are just full, from {most}", sums, [most[0] + 2, most[1] + 100, most[2] + 160])
-        sweep_refused(checks, 31, f"one more than {most}", over, lambda: over.take(*EXAMPLE[5:]))
-    published = {
-        (0, 0, 65_533 * 100 - 160): (65_533, 50),
-        (0, 0, 65_534 * 100 - 161): (65_533, 50),
-        (0, 0, 65_534 * 100 - 160): (NO_MEAN, 50),
-        (0, 101, 0): (0, 100),
-        (0, 102, 0): (0, 100),
-        room: (NO_MEAN, 1),
-    }
-    for sums, expected in published.items():
-        sweep = with_sums(*sums)
-        sweep.take(*EXAMPLE[5:])
-        cells = sweep.close()
-        checks.equal(f"published of {sums} and two gates", (flat(cells.means)[1], flat(cells.cell_qualities)[1]), expected)
+        sums = [flat(own)[1] for own in full.sums]
+        checks.equal(f"sums that are just full, from {most}", sums, [number + growth for number, growth in zip(most, GROWTH)])
+        sweep_refused(checks, 31, f"one more than {most}, weighting {weighting}", over, lambda: over.take(*EXAMPLE[5:]))
+
+
+def altered_sums(checks):
+    """What is refused, and what is published on closing, of sums that no ray gives."""
+    for weighting in (PLAIN, BY_QUALITY):
+        full_sums(checks, weighting)
+        for sums in SUMS:
+            sweep = opened(EXAMPLE._replace(weighting=weighting), 1, 2)
+            sweep.take(*EXAMPLE[5:])
+            alter(sweep, sums)
+            closed = sweep.close()
+            cells = expected_cells(weighting, *([0, number] for number in sums))
+            checks.equal(f"published of {sums}, weighting {weighting}", plain_lists([closed.means, closed.cell_qualities]), cells)
 
 
 def scan_refusals(checks):
@@ -563,6 +750,7 @@ def scan_refusals(checks):
     }
     for number, change in changes.items():
         scan = EXAMPLE._replace(**change)
+        checks.refused(number, f"tally with {change}", lambda: tally_of(scan))
         checks.refused(number, f"remap with {change}", lambda: uldrevin.remap(*scan))
         checks.refused(number, f"write_record with {change}", lambda: uldrevin.write_record(*scan))
     no_gates = EXAMPLE._replace(values=[[]], qualities=[[]])
@@ -656,6 +844,7 @@ def numbers_of_64_bits(checks):
     ]
     for number, change in wrong:
         scan = EXAMPLE._replace(**change)
+        checks.refused(number, f"tally with {change}", lambda: tally_of(scan))
         checks.refused(number, f"remap with {change}", lambda: uldrevin.remap(*scan))
         checks.refused(number, f"write_record with {change}", lambda: uldrevin.write_record(*scan))
     site, grid = EXAMPLE.site, EXAMPLE.grid
@@ -663,7 +852,7 @@ def numbers_of_64_bits(checks):
         checks.refused(7, f"azimuth {far}", lambda: uldrevin.place(site, grid, far, 0))
         checks.refused(3, f"range {far}", lambda: uldrevin.place(site, grid, 0, far))
         by_quality = EXAMPLE._replace(weighting=far)
-        checks.equal(f"value sums with weighting {far}", flat(uldrevin.remap(*by_quality).value_sums), [0, 1 * 90 + 7 * 10])
+        checks.equal(f"means with weighting {far}", flat(uldrevin.remap(*by_quality).means), [NO_MEAN, 1])
         checks.equal(f"a record with weighting {far}", uldrevin.write_record(*by_quality), uldrevin.write_record(*EXAMPLE))
 
 
@@ -686,6 +875,8 @@ def numbers_not_held(checks):
         scan = EXAMPLE._replace(**change)
         checks.raised(ValueError, words, f"remap with {change}", lambda: uldrevin.remap(*scan))
         checks.raised(ValueError, words, f"write_record with {change}", lambda: uldrevin.write_record(*scan))
+    both = EXAMPLE._replace(weighting=2**64, spacing=0)
+    checks.raised(ValueError, "weighting is 18446744073709551616", "remap with two wrong numbers", lambda: uldrevin.remap(*both))
     site, grid = EXAMPLE.site, EXAMPLE.grid
     checks.raised(ValueError, "azimuth is -18446744073709551616", "azimuth -2^64", lambda: uldrevin.place(site, grid, -(2**64), 0))
     checks.raised(ValueError, "range is 9223372036854775808", "range 2^63", lambda: uldrevin.place(site, grid, 0, 2**63))
@@ -733,6 +924,7 @@ def rays_not_taken(checks):
             (ValueError, "one of the sweep's own", (sweep.counts.ravel(), [[1, 7]] * 2, [[90, 10]] * 2)),
             (ValueError, "one of the sweep's own", (0, sweep.ledger.view("uint16")[0, :2], qualities)),
             (ValueError, "one of the sweep's own", (0, row, sweep.marks[2])),
+            (ValueError, "one of the sweep's own", (0, row, sweep.weighted_sums.view("uint8")[0, -2:])),
         ]
     else:
         wrong += [
@@ -786,6 +978,8 @@ def libraries(checks):
 def main():
     checks = Checks()
     for part in (gates, angles, scans, forms_of_lists, kinds_of_lists, held_arrays, scan_refusals, record_refusals, refusal_itself):
+        part(checks)
+    for part in (publishing, forms_of_sums, held_sums, publishing_refusals, sums_not_taken):
         part(checks)
     for part in (sweeps, forms_of_rays, swept_lists, fresh_lists, fed_sweeps, held_rays, opening_refusals, sweep_refusals, altered_sums):
         part(checks)

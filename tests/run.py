@@ -26,6 +26,7 @@ COMPARISONS = (
     "compare_sweep",
     "compare_exact_cells",
     "compare_placement",
+    "compare_publish",
     "compare_scan",
     "compare_programs",
     "compare_bindings",

@@ -7,16 +7,23 @@ from compare_scan import WRITTEN
 from lent_lists import GIVEN, MARGIN, changed_lines, earlier, given_lists, lending, lending_all, with_margins, within_margins
 from lent_structs import scan_struct, sweep_within
 from library import Sweep
+from publish_calls import PUBLISHED
 from record_calls import answered, list_lines, number_of, refused
-from second_program import sweep as rules
-from second_program.scan import Lent
-from second_program.sweep import Sums
+from second_program import scan as scan_rules, sweep as rules
+from second_program.scan import Cells, Lent, Sums
 
 STATE = sizeof(Sweep) // sizeof(c_int64)  # numbers
 SUMS = Sums._fields
-ENTRIES_AND_SUMS = Lent._fields[:5]  # ledger, marks and the three sums
-CELLS = Lent._fields[5:]  # means and cell qualities
+ENTRIES_AND_SUMS = Lent._fields
+CELLS = Cells._fields
+HELD = (*ENTRIES_AND_SUMS, *CELLS)
 EXACT = {}  # no step from any length
+
+
+def exact_lengths(scan):
+    """Of all lists that the caller of a sweep holds."""
+    lengths = scan_rules.lent_lengths(scan)
+    return (*lengths, lengths.counts, lengths.counts)
 
 
 class Rays(NamedTuple):
@@ -37,10 +44,11 @@ class Desk:
     """
 
     def __init__(self, compiled, lengths, state=None):
-        """Lists of these lengths. They hold what was there earlier, and so does the state, unless its numbers are given."""
+        """Lists of these lengths, cells last. They hold what was there earlier, and so does the state, unless its numbers are given."""
         self.compiled = compiled
         self.state = earlier("q", STATE) if state is None else with_margins("q", state)
-        self.lists = {name: earlier(letter, length) for name, letter, length in zip(Lent._fields, WRITTEN, lengths)}
+        letters = (*WRITTEN, *PUBLISHED)
+        self.lists = {name: earlier(letter, length) for name, letter, length in zip(HELD, letters, lengths)}
 
     def numbers(self, name, step=0):
         """What a list holds without its margins."""
@@ -52,6 +60,10 @@ class Desk:
 
     def alter_state(self, place, number):
         self.state[MARGIN + place] = number
+
+    def sums(self):
+        """The lists of sums as they are held, with margins."""
+        return Sums(*(self.lists[name] for name in SUMS))
 
     def sweep(self):
         return rules.sweep_of(within_margins(self.state))

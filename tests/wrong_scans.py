@@ -5,7 +5,7 @@ from typing import NamedTuple
 from far_numbers import FAR, far_from
 from second_program.placement import Hrap, OtherKind, Radolan
 from second_program.record import grid_numbers
-from second_program.scan import Lent, Scan
+from second_program.scan import Lent, Scan, Sums
 
 GIVEN = ("azimuths", "values", "qualities")
 
@@ -32,7 +32,6 @@ def named(name, *values):
 NUMBER_OF = {"rays": 1, "gates": 2, "first": 3, "spacing": 3, "latitude": 4, "longitude": 4}
 EMPTY = -(2**20)  # more than any list of a good scan is long
 LISTS = (*GIVEN, *Lent._fields)
-CELL_LISTS = Lent._fields[2:]
 WRONG_LISTS = (
     Change(6, {}, {"values": 1}, {}),
     Change(7, {}, {}, {"azimuths": (999, 3_600_000)}),
@@ -83,8 +82,8 @@ def scan_changes():
     yield Change(6, {}, {"values": 1, "qualities": -1}, {})
     yield Change(6, {}, {"ledger": 1, "marks": -1}, {})
     yield Change(6, {}, {"values": 5, "qualities": 5, "ledger": 5, "marks": 5}, {})
-    yield Change(6, {}, dict.fromkeys(CELL_LISTS, 1), {})
-    yield Change(6, {}, dict.fromkeys(CELL_LISTS, -1), {})
+    yield Change(6, {}, dict.fromkeys(Sums._fields, 1), {})
+    yield Change(6, {}, dict.fromkeys(Sums._fields, -1), {})
     yield Change(6, {}, dict.fromkeys(LISTS, EMPTY), {})
     for place in (0, 500, 999):
         for azimuth in (0, 3_599_999):
@@ -162,7 +161,7 @@ def apply(good, changes):
     rays = lendable(scan.rays, 721, good.rays)
     gates = rays * lendable(scan.gates, 1_001, good.gates)
     cells = lendable(scan.grid.columns, 1_501, good.grid.columns) * lendable(scan.grid.rows, 1_501, good.grid.rows)
-    lengths = dict(zip(LISTS, (rays, *[gates] * 4, *[cells] * 5)))
+    lengths = dict(zip(LISTS, (rays, *[gates] * 4, *[cells] * 4)))
     for change in changes:
         for name, step in change.lengths.items():
             lengths[name] = max(0, lengths[name] + step)

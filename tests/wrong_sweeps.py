@@ -6,8 +6,7 @@ import wrong_scans
 from far_numbers import FAR, far_from
 from second_program.placement import Hrap
 from second_program.record import head_of
-from second_program.scan import Lent
-from sweep_calls import CELLS, ENTRIES_AND_SUMS, SUMS, Rays
+from sweep_calls import CELLS, ENTRIES_AND_SUMS, HELD, SUMS, Rays
 from wrong_scans import EMPTY, GIVEN, HRAP_SCAN, RADOLAN_SCAN, changes_of_each, lendable, resized
 
 # The first of these that applies is given.
@@ -67,7 +66,7 @@ class Case(NamedTuple):
     kind: type  # of grid
     state: dict
     rays: Rays
-    lengths: Lent
+    lengths: tuple  # of the lists that the caller holds
     full: tuple
     applying: set  # all numbers that apply
     words: str
@@ -104,8 +103,8 @@ def case(operation, scan, stage, changes):
     gates = lendable(state["gates"], 1_001, scan.gates)
     cells = lendable(state["columns"], 1_501, scan.grid.columns) * lendable(state["rows"], 1_501, scan.grid.rows)
     announced = lendable(state["rays"], 721, scan.rays) * gates
-    exact = (rays, *[rays * gates] * 2, *[announced] * 2, *[cells] * 5)
-    lengths = dict(zip((*GIVEN, *Lent._fields), exact))
+    exact = (rays, *[rays * gates] * 2, *[announced] * 2, *[cells] * 6)
+    lengths = dict(zip((*GIVEN, *HELD), exact))
     for change in changes:
         for name, step in change.lengths.items():
             lengths[name] = max(0, lengths[name] + step)
@@ -114,12 +113,12 @@ def case(operation, scan, stage, changes):
         for name, (place, number) in change.contents.items():
             if given[name]:
                 given[name][len(given[name]) * place // 1_000] = number
-    lent = Lent(*(lengths[name] for name in Lent._fields))
+    held = tuple(lengths[name] for name in HELD)
     full = tuple(name for change in changes for name in change.full)
     applying = applying_numbers(operation, state, lengths["azimuths"], changes)
     kind = type(scan.grid)
     words = f"{operation}, {kind.__name__}, {stage.name}, {'; '.join(map(str, changes)) or 'nothing changed'}"
-    return Case(operation, stage, kind, state, Rays(**given), lent, full, applying, words)
+    return Case(operation, stage, kind, state, Rays(**given), held, full, applying, words)
 
 
 # The changes.

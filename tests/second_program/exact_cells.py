@@ -40,8 +40,7 @@ def exact_ledger(scan):
 
 def exact_counts(scan):
     """For each cell, the measured gates in it by exact positions."""
-    counts, _, _ = rules.tally(scan, exact_ledger(scan))
-    return counts
+    return rules.sums_of(scan, exact_ledger(scan)).counts
 
 
 class MarkedGate(NamedTuple):

@@ -1,6 +1,6 @@
 """What the programs sheet, ledger and gate print, as bytes.
 
-The sheet is written from document 01 alone, the other two from the README. Nothing is shared with the library.
+The sheet is written from document 01 and T-05 alone, the other two from the README. Nothing is shared with the library.
 """
 import re
 
@@ -47,7 +47,8 @@ def sheet_text(data):
 
 
 def sheet_rows(scan):
-    lists = rules.remap(scan, rules.lent_lengths(scan)).lists
+    lists = rules.tally(scan, rules.lent_lengths(scan)).lists
+    cells = rules.publish(scan.by_quality, lists.sums, rules.Cells(len(lists.counts), len(lists.counts)))
     measured_inside = [
         entry != OUTSIDE and value != NOT_MEASURED for entry, value in zip(lists.ledger, scan.values)
     ]
@@ -56,7 +57,7 @@ def sheet_rows(scan):
     for cell, count in enumerate(lists.counts):
         if count != 0:
             row, column = divmod(cell, scan.grid.columns)
-            yield column, row, lists.means[cell], lists.cell_qualities[cell], count
+            yield column, row, cells.means[cell], cells.cell_qualities[cell], count
 
 
 # The ledger.

@@ -1,6 +1,6 @@
-"""Document 01's whole scan: the refusals, the ledger, the sums and the published cells; T-02's marks.
+"""Document 01's whole scan: the refusals, the ledger, the sums and the cells; T-02's marks; T-05's tally and its publishing.
 
-It is written from document 01 and T-02 alone and shares nothing with the library.
+It is written from document 01, T-01's rule for altered sums, T-02 and T-05 alone and shares nothing with the library.
 The position follows the same rule as that of one gate in placement.py. Here it is spelled out in whole numbers, so that what
 the site decides is worked once a scan, what the azimuth decides once a ray, and what the range decides once a gate number.
 """
@@ -12,6 +12,8 @@ from second_program.placement import FLOORED, NEAR, OUTSIDE, Grid
 NO_ECHO = 65_534  # measured, counts as 0
 NOT_MEASURED = 65_535
 NO_MEAN = 65_535
+GREATEST_MEAN = 65_533
+GREATEST_QUALITY = 100
 
 
 class Scan(NamedTuple):
@@ -28,19 +30,38 @@ class Scan(NamedTuple):
     qualities: Sequence[int]
 
 
+class Sums(NamedTuple):
+    """Something for each of the lists of sums, a number a cell: its length, or what it holds."""
+
+    counts: Any
+    quality_sums: Any
+    value_sums: Any  # of the values
+    weighted_sums: Any  # of value x quality
+
+
 class Lent(NamedTuple):
-    """Something for each of the lists that are lent to be written: its length, or what it holds."""
+    """The same for each of the lists that a tally writes."""
 
     ledger: Any
     marks: Any
     counts: Any
     quality_sums: Any
     value_sums: Any
+    weighted_sums: Any
+
+    @property
+    def sums(self):
+        return Sums(*self[2:])
+
+
+class Cells(NamedTuple):
+    """The same for each of the lists that are published."""
+
     means: Any
     cell_qualities: Any
 
 
-class Remapped(NamedTuple):
+class Tallied(NamedTuple):
     """The answer for a scan. After a refusal there are no lists: the lent ones stay as they came in."""
 
     refusal: int
@@ -52,9 +73,9 @@ def centre(scan, gate):
 
 
 def lent_lengths(scan):
-    """The exact lengths of the lists that are lent to be written."""
+    """The exact lengths of the lists that a tally writes."""
     gates, cells = scan.rays * scan.gates, scan.grid.columns * scan.grid.rows
-    return Lent(gates, gates, cells, cells, cells, cells, cells)
+    return Lent(gates, gates, cells, cells, cells, cells)
 
 
 # Refusals.
@@ -96,7 +117,7 @@ def refusal(scan, lengths):
     return min(wrong_numbers(scan, lengths), default=0)
 
 
-# Ledger, marks and cells.
+# Ledger, marks and sums.
 
 
 def positions(scan):
@@ -148,34 +169,84 @@ def marks(grid, places):
     return found
 
 
-def tally(scan, entries):
-    """Counts, quality sums and value sums."""
+def counted(value):
+    """What a measured gate counts."""
+    return 0 if value == NO_ECHO else value
+
+
+def sums_of(scan, entries):
+    """The sums of the cells. The weighting plays no part."""
     cells = scan.grid.columns * scan.grid.rows
-    counts, quality_sums, value_sums = [0] * cells, [0] * cells, [0] * cells
+    sums = Sums([0] * cells, [0] * cells, [0] * cells, [0] * cells)
     for entry, value, quality in zip(entries, scan.values, scan.qualities):
         if entry == OUTSIDE or value == NOT_MEASURED:
             continue
-        counted = 0 if value == NO_ECHO else value
-        counts[entry] += 1
-        quality_sums[entry] += quality
-        value_sums[entry] += counted * quality if scan.by_quality else counted
-    return counts, quality_sums, value_sums
+        sums.counts[entry] += 1
+        sums.quality_sums[entry] += quality
+        sums.value_sums[entry] += counted(value)
+        sums.weighted_sums[entry] += counted(value) * quality
+    return sums
 
 
-def publish(by_quality, counts, quality_sums, value_sums):
-    """Means and cell qualities."""
-    divisors = quality_sums if by_quality else counts
-    means = [total // divisor if divisor != 0 else NO_MEAN for total, divisor in zip(value_sums, divisors)]
-    cell_qualities = [total // count if count != 0 else 0 for total, count in zip(quality_sums, counts)]
-    return means, cell_qualities
-
-
-def remap(scan, lengths):
+def tally(scan, lengths):
     """The answer, where the lists to be written have these lengths."""
     number = refusal(scan, lengths)
     if number != 0:
-        return Remapped(number, None)
+        return Tallied(number, None)
     places = positions(scan)
     entries = ledger(scan.grid, places)
-    sums = tally(scan, entries)
-    return Remapped(0, Lent(entries, marks(scan.grid, places), *sums, *publish(scan.by_quality, *sums)))
+    return Tallied(0, Lent(entries, marks(scan.grid, places), *sums_of(scan, entries)))
+
+
+# Publishing.
+
+
+def quotient(total, divisor, without):
+    """The floor of the quotient, or what stands there without a divisor."""
+    return total // divisor if divisor != 0 else without
+
+
+def publish(by_quality, sums, lengths):
+    """Means and cell qualities of any sums, where the two lists to be written have these lengths; 6 unless all lists are equally long."""
+    if len({*map(len, sums), *lengths}) != 1:
+        return 6
+    totals, divisors = (sums.weighted_sums, sums.quality_sums) if by_quality else (sums.value_sums, sums.counts)
+    means = [quotient(total, divisor, NO_MEAN) for total, divisor in zip(totals, divisors)]
+    qualities = [quotient(total, count, 0) for total, count in zip(sums.quality_sums, sums.counts)]
+    return Cells(
+        [mean if mean <= GREATEST_MEAN else NO_MEAN for mean in means],
+        [min(quality, GREATEST_QUALITY) for quality in qualities],
+    )
+
+
+# Document 01's cells, worked from the gates themselves and not from lists of sums.
+
+
+class Contributor(NamedTuple):
+    value: int
+    quality: int
+
+
+def contributors(scan, entries):
+    """The measured gates of each cell that has any, by the cell's number."""
+    cells = {}
+    for entry, value, quality in zip(entries, scan.values, scan.qualities):
+        if entry != OUTSIDE and value != NOT_MEASURED:
+            cells.setdefault(entry, []).append(Contributor(counted(value), quality))
+    return cells
+
+
+def mean_of(by_quality, gates):
+    """Document 01's mean of the measured gates of a cell."""
+    if by_quality:
+        return quotient(sum(gate.value * gate.quality for gate in gates), sum(gate.quality for gate in gates), NO_MEAN)
+    return quotient(sum(gate.value for gate in gates), len(gates), NO_MEAN)
+
+
+def quality_of(gates):
+    return quotient(sum(gate.quality for gate in gates), len(gates), 0)
+
+
+def contributing_values(by_quality, gates):
+    """Those between which a mean lies; gates of quality 0 are left out by quality."""
+    return [gate.value for gate in gates if not by_quality or gate.quality != 0]

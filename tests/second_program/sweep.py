@@ -1,17 +1,15 @@
-"""T-01's sweep, a scan that is fed ray by ray: opening, taking rays and closing; with T-02's marks.
+"""T-01's sweep, a scan that is fed ray by ray: opening, taking rays and closing; with T-02's marks and T-05's sums.
 
-It is written from T-01, T-02 and document 01 alone and shares nothing with the library.
+It is written from T-01, T-02, T-05 and document 01 alone and shares nothing with the library.
 The state is handed over and handed back by value. Each operation answers with the new state and the lists that it has
 written, or with the refusal number.
 """
-from typing import Any, NamedTuple
+from typing import NamedTuple
 
 from second_program import record, scan as rules
 from second_program.placement import Hrap, OtherKind, Radolan
-from second_program.scan import NO_MEAN, Scan
+from second_program.scan import Scan, Sums
 
-GREATEST_MEAN = 65_533
-GREATEST_QUALITY = 100
 LARGEST = 2**32 - 1
 
 
@@ -23,16 +21,8 @@ class Sweep(NamedTuple):
     closed: bool
 
 
-class Sums(NamedTuple):
-    """Something for each of the three lists of sums: its length, or what it holds."""
-
-    counts: Any
-    quality_sums: Any
-    value_sums: Any
-
-
-# The greatest number of each width: counts and quality sums have 32 bits, value sums 64.
-WIDEST = Sums(2**32 - 1, 2**32 - 1, 2**64 - 1)
+# The greatest number of each width: counts and quality sums have 32 bits, both value sums 64.
+WIDEST = Sums(2**32 - 1, 2**32 - 1, 2**64 - 1, 2**64 - 1)
 
 
 # The state as numbers.
@@ -84,7 +74,7 @@ def open_sweep(scan, lengths):
     wrong = rules.wrong_numbers_where(scan, all(length == cells for length in lengths))
     if wrong:
         return min(wrong)
-    return Sweep(scan, 0, False), Sums([0] * cells, [0] * cells, [0] * cells)
+    return Sweep(scan, 0, False), Sums([0] * cells, [0] * cells, [0] * cells, [0] * cells)
 
 
 def take(sweep, rays, ledger, marks, sums):
@@ -99,7 +89,7 @@ def take(sweep, rays, ledger, marks, sums):
         return min(wrong)
     places = rules.positions(group)
     entries = rules.ledger(group.grid, places)
-    grown = Sums(*map(added, sums, rules.tally(group, entries)))
+    grown = Sums(*map(added, sums, rules.sums_of(group, entries)))
     if any(total > widest for totals, widest in zip(grown, WIDEST) for total in totals):
         return 31
     start = sweep.taken * group.gates
@@ -129,7 +119,7 @@ def added(held, shares):
 
 
 def close(sweep, sums, lengths):
-    """The new state, the means and the cell qualities, where the two lists to be written have these lengths."""
+    """The new state, and means and cell qualities in its weighting, where the two lists to be written have these lengths."""
     if sweep.closed:
         return 19
     if sweep.taken > sweep.scan.rays:
@@ -141,13 +131,4 @@ def close(sweep, sums, lengths):
         return 18
     if any(length != cells_of(sweep.scan) for length in (*map(len, sums), *lengths)):
         return 6
-    return sweep._replace(closed=True), *publish(sweep.scan.by_quality, sums)
-
-
-def publish(by_quality, sums):
-    """Means and cell qualities of any sums, which may have been altered."""
-    means, cell_qualities = rules.publish(by_quality, *sums)
-    return (
-        [mean if mean <= GREATEST_MEAN else NO_MEAN for mean in means],
-        [min(quality, GREATEST_QUALITY) for quality in cell_qualities],
-    )
+    return sweep._replace(closed=True), *rules.publish(sweep.scan.by_quality, sums, lengths)

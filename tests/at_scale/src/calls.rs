@@ -1,14 +1,15 @@
 //! The library's calls: by the crate's safe function where its types hold the numbers, so that both the crate and the library are tried,
 //! and else by the function as C has it, which takes them all.
 
-use crate::library::{from_placement, to_grid, to_head, to_number, to_site};
+use crate::library::{from_placement, to_grid, to_head, to_number, to_site, to_weighting};
 use plain_program::placement::{Grid, Placement, Site};
 use plain_program::scan::Head;
 use std::fmt::Debug;
 use uldrevin::exports::{
-    uldrevin_place, uldrevin_record_write, uldrevin_remap, GridNumbers, ScanNumbers, SiteNumbers,
+    uldrevin_place, uldrevin_publish, uldrevin_record_write, uldrevin_tally, GridNumbers,
+    ScanNumbers, SiteNumbers,
 };
-use uldrevin::{CellLists, GateLists, Refusal, OUTSIDE};
+use uldrevin::{EntryLists, GateLists, Refusal, SumLists, OUTSIDE};
 
 fn site_numbers(site: Site) -> SiteNumbers {
     SiteNumbers {
@@ -87,11 +88,23 @@ pub fn place(site: Site, grid: Grid, azimuth: i64, range: i64) -> Result<Placeme
     }
 }
 
-fn remap_as_c(head: &Head, scan: GateLists, lists: CellLists) -> Result<(), u32> {
+fn answered(answer: u32) -> Result<(), u32> {
+    match answer {
+        0 => Ok(()),
+        refusal => Err(refusal),
+    }
+}
+
+fn tally_as_c(
+    head: &Head,
+    scan: GateLists,
+    entries: &mut EntryLists,
+    sums: &mut SumLists,
+) -> Result<(), u32> {
     let numbers = scan_numbers(head);
-    // Every pointer goes with the length of its own list, and no two lists of `lists` overlap.
-    let answer = unsafe {
-        uldrevin_remap(
+    // Every pointer goes with the length of its own list, and no two lists of `entries` and `sums` overlap.
+    answered(unsafe {
+        uldrevin_tally(
             &numbers,
             scan.azimuths.as_ptr(),
             scan.azimuths.len(),
@@ -99,32 +112,71 @@ fn remap_as_c(head: &Head, scan: GateLists, lists: CellLists) -> Result<(), u32>
             scan.values.len(),
             scan.qualities.as_ptr(),
             scan.qualities.len(),
-            lists.ledger.as_mut_ptr(),
-            lists.ledger.len(),
-            lists.marks.as_mut_ptr(),
-            lists.marks.len(),
-            lists.counts.as_mut_ptr(),
-            lists.counts.len(),
-            lists.quality_sums.as_mut_ptr(),
-            lists.quality_sums.len(),
-            lists.value_sums.as_mut_ptr(),
-            lists.value_sums.len(),
-            lists.means.as_mut_ptr(),
-            lists.means.len(),
-            lists.cell_qualities.as_mut_ptr(),
-            lists.cell_qualities.len(),
+            entries.ledger.as_mut_ptr(),
+            entries.ledger.len(),
+            entries.marks.as_mut_ptr(),
+            entries.marks.len(),
+            sums.counts.as_mut_ptr(),
+            sums.counts.len(),
+            sums.quality_sums.as_mut_ptr(),
+            sums.quality_sums.len(),
+            sums.value_sums.as_mut_ptr(),
+            sums.value_sums.len(),
+            sums.weighted_sums.as_mut_ptr(),
+            sums.weighted_sums.len(),
         )
-    };
-    match answer {
-        0 => Ok(()),
-        refusal => Err(refusal),
+    })
+}
+
+pub fn tally(
+    head: &Head,
+    scan: GateLists,
+    entries: &mut EntryLists,
+    sums: &mut SumLists,
+) -> Result<(), u32> {
+    match to_head(head) {
+        Some(head) => uldrevin::tally_into(head, scan, entries, sums).map_err(number),
+        None => tally_as_c(head, scan, entries, sums),
     }
 }
 
-pub fn remap(head: &Head, scan: GateLists, lists: CellLists) -> Result<(), u32> {
-    match to_head(head) {
-        Some(head) => uldrevin::remap_into(head, scan, lists).map_err(number),
-        None => remap_as_c(head, scan, lists),
+fn publish_as_c(
+    weighting: i64,
+    sums: &SumLists,
+    means: &mut [u16],
+    cell_qualities: &mut [u8],
+) -> Result<(), u32> {
+    // Every pointer goes with the length of its own list, and no two lists overlap.
+    answered(unsafe {
+        uldrevin_publish(
+            weighting,
+            sums.counts.as_ptr(),
+            sums.counts.len(),
+            sums.quality_sums.as_ptr(),
+            sums.quality_sums.len(),
+            sums.value_sums.as_ptr(),
+            sums.value_sums.len(),
+            sums.weighted_sums.as_ptr(),
+            sums.weighted_sums.len(),
+            means.as_mut_ptr(),
+            means.len(),
+            cell_qualities.as_mut_ptr(),
+            cell_qualities.len(),
+        )
+    })
+}
+
+pub fn publish(
+    weighting: i64,
+    sums: &SumLists,
+    means: &mut [u16],
+    cell_qualities: &mut [u8],
+) -> Result<(), u32> {
+    match to_weighting(weighting) {
+        Some(weighting) => {
+            uldrevin::publish_into(weighting, sums, means, cell_qualities).map_err(number)
+        }
+        None => publish_as_c(weighting, sums, means, cell_qualities),
     }
 }
 

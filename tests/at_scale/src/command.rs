@@ -5,7 +5,7 @@ use std::time::{Duration, SystemTime, UNIX_EPOCH};
 
 pub const USAGE: &str = "usage: at_scale GATES [SEED]
        at_scale --seconds SECONDS [SEED]
-       at_scale --case KIND SEED    with KIND gate, scan, sweep, written or read";
+       at_scale --case KIND SEED    with KIND gate, scan, sums, sweep, written or read";
 
 /// How much is worked.
 #[derive(Clone, Copy)]

@@ -3,12 +3,21 @@
 use crate::handed_in::beyond_32_bits;
 use crate::kinds::{Kind, KINDS};
 use crate::outcome::Outcome;
+use crate::publishing::PUBLISH;
+use crate::scans::TALLY;
 use crate::sweep_state::CALLS;
 use std::collections::{BTreeMap, BTreeSet};
 
 /// The refusal numbers of document 01 and of T-01.
 pub const REFUSALS: [u32; 18] = [
     1, 2, 3, 4, 5, 6, 7, 8, 11, 12, 13, 14, 15, 16, 17, 18, 19, 31,
+];
+
+/// The calls of whole scans and of any sums, with the answers that a long run must have met.
+const TALLIED_AND_PUBLISHED: [(Kind, &str, &[u32]); 3] = [
+    (Kind::Scan, TALLY, &[0, 1, 2, 3, 4, 5, 6, 7, 8]),
+    (Kind::Scan, PUBLISH, &[0, 6]),
+    (Kind::Sums, PUBLISH, &[0, 6]),
 ];
 
 #[derive(Default)]
@@ -79,9 +88,13 @@ impl Counts {
         self.kinds.iter().map(|kind| kind.answered(number)).sum()
     }
 
-    fn of_sweep(&self, call: &'static str, number: u32) -> u64 {
-        let answers = &self.kinds[Kind::Sweep as usize].answers;
+    fn answers_of(&self, kind: Kind, call: &'static str, number: u32) -> u64 {
+        let answers = &self.kinds[kind as usize].answers;
         answers.get(&(call, number)).copied().unwrap_or(0)
+    }
+
+    fn of_sweep(&self, call: &'static str, number: u32) -> u64 {
+        self.answers_of(Kind::Sweep, call, number)
     }
 
     /// The marks that no gate of a kind had.
@@ -92,7 +105,8 @@ impl Counts {
         none.map(move |(_, mark)| format!("no gate was {mark} in {}", kind.title()))
     }
 
-    /// What no case tried: refusal numbers, answers to a sweep's calls and, for each kind, marks and numbers that 32 bits do not hold.
+    /// What no case tried: refusal numbers, answers to tallies, to publishing and to a sweep's calls, and, for each kind, marks and
+    /// numbers that 32 bits do not hold.
     pub fn missing(&self) -> Vec<String> {
         let refusals = REFUSALS
             .into_iter()
@@ -103,14 +117,17 @@ impl Counts {
             let always = numbers.filter(|(_, &cases)| cases == 0);
             always.map(move |(name, _)| format!("32 bits held every {name} in {}", kind.title()))
         };
-        let answers_to = |&(call, numbers): &(&'static str, &'static [u32])| {
+        let answers_to = |(kind, call, numbers): (Kind, &'static str, &'static [u32])| {
             let never = numbers
                 .iter()
-                .filter(move |&&number| self.of_sweep(call, number) == 0);
-            never.map(move |number| format!("no call was answered by {number}: {call}"))
+                .filter(move |&&number| self.answers_of(kind, call, number) == 0);
+            let title = kind.title();
+            never.map(move |number| format!("no call was answered by {number}: {call}, {title}"))
         };
+        let of_sweeps = CALLS.map(|(call, numbers)| (Kind::Sweep, call, numbers));
         refusals
-            .chain(CALLS.iter().flat_map(answers_to))
+            .chain(TALLIED_AND_PUBLISHED.into_iter().flat_map(answers_to))
+            .chain(of_sweeps.into_iter().flat_map(answers_to))
             .chain(KINDS.into_iter().flat_map(|kind| self.missing_marks(kind)))
             .chain(KINDS.into_iter().flat_map(in_32_bits))
             .collect()

@@ -2,7 +2,7 @@
 
 use crate::draw::Draw;
 use crate::outcome::Outcome;
-use crate::{gates, records_read, records_written, scans, sweep_draw, sweeps};
+use crate::{gates, publishing, records_read, records_written, scans, sweep_draw, sweeps};
 use plain_program::sine::Tables;
 use std::panic::catch_unwind;
 
@@ -10,14 +10,16 @@ use std::panic::catch_unwind;
 pub enum Kind {
     Gate,
     Scan,
+    Sums,
     Sweep,
     Written,
     Read,
 }
 
-pub const KINDS: [Kind; 5] = [
+pub const KINDS: [Kind; 6] = [
     Kind::Gate,
     Kind::Scan,
+    Kind::Sums,
     Kind::Sweep,
     Kind::Written,
     Kind::Read,
@@ -29,6 +31,7 @@ impl Kind {
         match self {
             Kind::Gate => "gate",
             Kind::Scan => "scan",
+            Kind::Sums => "sums",
             Kind::Sweep => "sweep",
             Kind::Written => "written",
             Kind::Read => "read",
@@ -40,6 +43,7 @@ impl Kind {
         match self {
             Kind::Gate => "single gates",
             Kind::Scan => "whole scans",
+            Kind::Sums => "sums published",
             Kind::Sweep => "sweeps",
             Kind::Written => "records written",
             Kind::Read => "records read",
@@ -51,6 +55,7 @@ impl Kind {
         match self {
             Kind::Gate => gates::compare(&gates::draw(draw, tables), tables),
             Kind::Scan => scans::compare(&scans::draw(draw, tables), tables),
+            Kind::Sums => publishing::compare(&publishing::draw(draw)),
             Kind::Sweep => sweeps::compare(&sweep_draw::draw(draw, tables), tables),
             Kind::Written => records_written::compare(&records_written::draw(draw, tables)),
             Kind::Read => records_read::compare(&records_read::draw(draw, tables)),
@@ -74,6 +79,7 @@ impl Kind {
         match self {
             Kind::Gate => format!("{:?}", gates::draw(draw, tables)),
             Kind::Scan => format!("{:?}", scans::draw(draw, tables)),
+            Kind::Sums => format!("{:?}", publishing::draw(draw)),
             Kind::Sweep => format!("{:?}", sweep_draw::draw(draw, tables)),
             Kind::Written => format!("{:?}", records_written::draw(draw, tables)),
             Kind::Read => format!("{:?}", records_read::draw(draw, tables)),

@@ -58,6 +58,14 @@ fn from_grid(grid: uldrevin::Grid) -> Grid {
     }
 }
 
+pub fn to_weighting(weighting: i64) -> Option<uldrevin::Weighting> {
+    match weighting {
+        PLAIN => Some(uldrevin::Weighting::Plain),
+        BY_QUALITY => Some(uldrevin::Weighting::ByQuality),
+        _ => None,
+    }
+}
+
 pub fn to_head(head: &Head) -> Option<uldrevin::ScanHead> {
     Some(uldrevin::ScanHead {
         site: to_site(head.site),
@@ -66,11 +74,7 @@ pub fn to_head(head: &Head) -> Option<uldrevin::ScanHead> {
         first: to_number(head.first)?,
         spacing: to_number(head.spacing)?,
         grid: to_grid(head.grid)?,
-        weighting: match head.weighting {
-            PLAIN => uldrevin::Weighting::Plain,
-            BY_QUALITY => uldrevin::Weighting::ByQuality,
-            _ => return None,
-        },
+        weighting: to_weighting(head.weighting)?,
     })
 }
 

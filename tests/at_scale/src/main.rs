@@ -1,6 +1,7 @@
 //! Works the library and the plain program on the same drawn cases and compares all that they answer and leave.
 
 mod calls;
+mod cell_sums;
 mod command;
 mod counts;
 mod damage;
@@ -11,6 +12,7 @@ mod kinds;
 mod lent_list;
 mod outcome;
 mod output_lists;
+mod publishing;
 mod record_bytes;
 mod records_read;
 mod records_written;
@@ -38,9 +40,10 @@ use std::process::ExitCode;
 use std::time::Instant;
 
 /// How often each kind comes before the first comes again.
-const ROUND: [(Kind, usize); 5] = [
+const ROUND: [(Kind, usize); 6] = [
     (Kind::Gate, 60),
     (Kind::Scan, 15),
+    (Kind::Sums, 15),
     (Kind::Sweep, 15),
     (Kind::Written, 15),
     (Kind::Read, 40),
@@ -51,8 +54,8 @@ const MOST_PRINTED: u64 = 10;
 /// The command that works something again, without its last words.
 const AGAIN: &str = "cargo run --release --offline -p at_scale --";
 
-/// In so many cases each refusal number, also in each state of a sweep, each mark, and each number that 32 bits do not hold, comes up
-/// dozens of times, so one that does not is an error.
+/// In so many cases each refusal number, also of a tally, of publishing and in each state of a sweep, each mark, and each number that 32
+/// bits do not hold, comes up dozens of times, so one that does not is an error.
 const CASES_FOR_ALL: u64 = 100_000;
 
 fn print_difference(kind: Kind, seed: u64, outcome: &Outcome, counts: &Counts) {

@@ -1,4 +1,4 @@
-//! The lists that a scan or a sweep writes, lent: a ledger entry and a mark a gate, the rest a number a cell.
+//! The lists that a tally, a publishing or a sweep writes, lent: a ledger entry and a mark a gate, the rest a number a cell.
 
 use crate::draw::Draw;
 use crate::lent_list::LentList;
@@ -11,6 +11,7 @@ pub struct Lengths {
     pub counts: usize,
     pub quality_sums: usize,
     pub value_sums: usize,
+    pub weighted_sums: usize,
     pub means: usize,
     pub cell_qualities: usize,
 }
@@ -23,6 +24,7 @@ impl Lengths {
             counts: cells,
             quality_sums: cells,
             value_sums: cells,
+            weighted_sums: cells,
             means: cells,
             cell_qualities: cells,
         }
@@ -30,16 +32,31 @@ impl Lengths {
 
     /// Spoils one length.
     pub fn spoil(&mut self, draw: &mut Draw) {
-        let length = match draw.below(7) {
+        let length = match draw.below(8) {
             0 => &mut self.ledger,
             1 => &mut self.marks,
-            2 => &mut self.counts,
-            3 => &mut self.quality_sums,
-            4 => &mut self.value_sums,
-            5 => &mut self.means,
+            _ => return self.spoil_published(draw),
+        };
+        *length = draw.wrong_length(*length);
+    }
+
+    /// Spoils one length of the lists that publishing takes.
+    pub fn spoil_published(&mut self, draw: &mut Draw) {
+        let length = match draw.below(6) {
+            0 => &mut self.counts,
+            1 => &mut self.quality_sums,
+            2 => &mut self.value_sums,
+            3 => &mut self.weighted_sums,
+            4 => &mut self.means,
             _ => &mut self.cell_qualities,
         };
         *length = draw.wrong_length(*length);
+    }
+
+    /// How many cells have all sums.
+    pub fn shortest_sums(&self) -> usize {
+        let narrow = self.counts.min(self.quality_sums);
+        narrow.min(self.value_sums).min(self.weighted_sums)
     }
 }
 
@@ -54,6 +71,7 @@ pub struct Lists {
     pub counts: LentList<u32>,
     pub quality_sums: LentList<u32>,
     pub value_sums: LentList<u64>,
+    pub weighted_sums: LentList<u64>,
     pub means: LentList<u16>,
     pub cell_qualities: LentList<u8>,
 }
@@ -70,6 +88,7 @@ impl Lists {
             counts: LentList::new(draw, margin, lengths.counts, low_half),
             quality_sums: LentList::new(draw, margin, lengths.quality_sums, low_half),
             value_sums: LentList::new(draw, margin, lengths.value_sums, |bits| bits),
+            weighted_sums: LentList::new(draw, margin, lengths.weighted_sums, |bits| bits),
             means: LentList::new(draw, margin, lengths.means, |bits| bits as u16),
             cell_qualities: LentList::new(draw, margin, lengths.cell_qualities, low_byte),
         }
@@ -87,6 +106,10 @@ impl Lists {
                 .or_else(|| {
                     self.value_sums
                         .compare("value_sums", &other.value_sums, name)
+                })
+                .or_else(|| {
+                    self.weighted_sums
+                        .compare("weighted_sums", &other.weighted_sums, name)
                 })
                 .or_else(|| self.means.compare("means", &other.means, name))
                 .or_else(|| {

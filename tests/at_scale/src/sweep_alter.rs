@@ -1,14 +1,14 @@
-//! Draws of alterations by a caller: of a sweep's state, and of its sums near their widths or beyond what gates can give.
+//! Draws of alterations by a caller: of a sweep's state, and of its sums near their widths.
 
+use crate::cell_sums::CellSums;
 use crate::draw::Draw;
 use crate::scan_input::ScanInput;
-use crate::sweep_step::{number_of, CellSums, Step, NUMBERS};
+use crate::sweep_step::{number_of, Step, NUMBERS};
 use plain_program::placement::{
     CORNERS, FIRST_CELLS, HRAP_KIND, LATITUDES, LONGITUDES, RADOLAN_KIND, RANGES, SIDES, SIZES,
 };
 use plain_program::scan::{
-    remap, Head, Lent, BY_QUALITY, GATES, LARGEST_MEAN, MOST_QUALITY, OUTSIDE, PLAIN, RAYS,
-    SPACINGS,
+    tally, Entries, LentSums, BY_QUALITY, GATES, OUTSIDE, PLAIN, RAYS, SPACINGS,
 };
 use plain_program::sine::Tables;
 use plain_program::sweep::{Sweep, CLOSED, OPEN};
@@ -81,24 +81,27 @@ pub fn alter_state(draw: &mut Draw, sweep: &Sweep) -> Vec<Step> {
 fn reached(tables: &Tables, rays: &ScanInput) -> Vec<CellSums> {
     let cells = (rays.head.grid.columns * rays.head.grid.rows) as usize;
     let gates = rays.values.len();
-    let (mut ledger, mut counts) = (vec![0; gates], vec![0; cells]);
-    let (mut quality_sums, mut value_sums) = (vec![0; cells], vec![0; cells]);
-    let mut lent = Lent {
+    let mut ledger = vec![0; gates];
+    let entries = Entries {
         ledger: &mut ledger,
         marks: &mut vec![0; gates],
+    };
+    let (mut counts, mut quality_sums) = (vec![0; cells], vec![0; cells]);
+    let (mut value_sums, mut weighted_sums) = (vec![0; cells], vec![0; cells]);
+    let sums = LentSums {
         counts: &mut counts,
         quality_sums: &mut quality_sums,
         value_sums: &mut value_sums,
-        means: &mut vec![0; cells],
-        cell_qualities: &mut vec![0; cells],
+        weighted_sums: &mut weighted_sums,
     };
-    remap(tables, &rays.head, rays.given(), &mut lent).expect("good rays");
+    tally(tables, &rays.head, rays.given(), entries, sums).expect("good rays");
     let reached: BTreeSet<u32> = ledger.into_iter().filter(|&cell| cell != OUTSIDE).collect();
     let sums = |cell: usize| CellSums {
         cell,
         count: counts[cell],
         quality_sum: quality_sums[cell],
         value_sum: value_sums[cell],
+        weighted_sum: weighted_sums[cell],
     };
     reached
         .into_iter()
@@ -118,7 +121,8 @@ fn near_width(draw: &mut Draw, most: u64, added: u64) -> u64 {
     }
 }
 
-/// Sums of a cell that the rays reach, so that one of its three widths or more are just passed or just not; or of cell 0 where they reach none.
+/// Sums of a cell that the rays reach, so that one of its four widths or more are just passed or just not; or of cell 0 where they reach
+/// none.
 pub fn sums_near_a_width(draw: &mut Draw, tables: &Tables, rays: &ScanInput) -> CellSums {
     let reached = reached(tables, rays);
     let added = match reached.len() {
@@ -131,47 +135,12 @@ pub fn sums_near_a_width(draw: &mut Draw, tables: &Tables, rays: &ScanInput) -> 
         ..CellSums::default()
     };
     for _ in 0..draw.within(1..=2) {
-        match draw.below(3) {
+        match draw.below(4) {
             0 => altered.count = near_width(draw, narrow, added.count.into()) as u32,
             1 => altered.quality_sum = near_width(draw, narrow, added.quality_sum.into()) as u32,
-            _ => altered.value_sum = near_width(draw, wide, added.value_sum),
+            2 => altered.value_sum = near_width(draw, wide, added.value_sum),
+            _ => altered.weighted_sum = near_width(draw, wide, added.weighted_sum),
         }
     }
     altered
-}
-
-/// A number of up to 32 bits, each length alike.
-fn any_narrow(draw: &mut Draw) -> u32 {
-    draw.bits() as u32 >> draw.below(32)
-}
-
-/// A sum whose quotient by the divisor is the one given, where 64 bits hold it.
-fn sum_for(draw: &mut Draw, quotient: u64, divisor: u32) -> u64 {
-    let rest = draw.below(divisor.max(1) as usize) as u64;
-    quotient.saturating_mul(divisor.into()).saturating_add(rest)
-}
-
-/// Sums of a cell with its mean about 65,533 or beyond, or its quality about 100 or beyond.
-pub fn sums_to_publish(draw: &mut Draw, head: &Head) -> CellSums {
-    let any = any_narrow(draw);
-    let count = draw.one_of(&[0, 1, 2, 7, u32::MAX, any]);
-    let (most, far) = (u64::from(MOST_QUALITY), draw.bits() >> draw.below(64));
-    let quality = draw.one_of(&[0, most - 1, most, most + 1, 255, 256, 256 + most, far]);
-    let quality_sum = sum_for(draw, quality, count).min(u32::MAX.into()) as u32;
-    let any = any_narrow(draw);
-    let quality_sum = draw.one_of(&[quality_sum, quality_sum, any]);
-    let divisor = match head.weighting {
-        PLAIN => count,
-        _ => quality_sum,
-    };
-    let far = draw.bits() >> draw.below(64);
-    let about = LARGEST_MEAN + draw.below(5) as u64 - 1;
-    let mean = draw.one_of(&[0, about, about, about, about + 65_536, far]);
-    let cells = (head.grid.columns * head.grid.rows) as usize;
-    CellSums {
-        cell: draw.below(cells),
-        count,
-        quality_sum,
-        value_sum: sum_for(draw, mean, divisor),
-    }
 }

@@ -1,10 +1,11 @@
 //! A caller who feeds a scan to a sweep, as steps that are drawn.
 
+use crate::cell_sums::{sums_to_publish, CellSums};
 use crate::draw::Draw;
 use crate::output_lists::Lengths;
 use crate::scan_input::{spoil_contents, spoil_lengths, spoil_number, ScanInput};
-use crate::sweep_alter::{alter_state, sums_near_a_width, sums_to_publish};
-use crate::sweep_step::{CellSums, Step};
+use crate::sweep_alter::{alter_state, sums_near_a_width};
+use crate::sweep_step::Step;
 use plain_program::scan::{GATES, RAYS};
 use plain_program::sine::Tables;
 use plain_program::sweep::{Sweep, OPEN};
@@ -160,13 +161,15 @@ impl<'a> Caller<'a> {
                 count: 1,
                 quality_sum: 2,
                 value_sum: 3,
+                weighted_sum: 4,
             };
             self.steps.push(Step::AlterSums(small));
         }
     }
 
     pub fn alter_sums_to_publish(&mut self, draw: &mut Draw) {
-        let altered = sums_to_publish(draw, &self.scan.head);
+        let cell = draw.below(self.exact.counts);
+        let altered = sums_to_publish(draw, cell);
         self.steps.push(Step::AlterSums(altered));
     }
 

@@ -39,6 +39,8 @@ pub fn open_as_c(head: &Head, sums: &mut SumLists, sweep: &mut Sweep) -> u32 {
             sums.quality_sums.len(),
             sums.value_sums.as_mut_ptr(),
             sums.value_sums.len(),
+            sums.weighted_sums.as_mut_ptr(),
+            sums.weighted_sums.len(),
             &mut numbers,
         )
     };
@@ -73,6 +75,8 @@ pub fn take_as_c(
             sums.quality_sums.len(),
             sums.value_sums.as_mut_ptr(),
             sums.value_sums.len(),
+            sums.weighted_sums.as_mut_ptr(),
+            sums.weighted_sums.len(),
         )
     };
     put(sweep, numbers);
@@ -96,6 +100,8 @@ pub fn close_as_c(
             sums.quality_sums.len(),
             sums.value_sums.as_ptr(),
             sums.value_sums.len(),
+            sums.weighted_sums.as_ptr(),
+            sums.weighted_sums.len(),
             means.as_mut_ptr(),
             means.len(),
             cell_qualities.as_mut_ptr(),

@@ -3,9 +3,9 @@
 use crate::output_lists::Lists;
 use crate::sweep_calls;
 use crate::sweep_step::Step;
-use plain_program::scan::{Entries, Sums};
+use plain_program::scan::{Entries, LentSums, Sums};
 use plain_program::sine::Tables;
-use plain_program::sweep::{LentSums, Sweep};
+use plain_program::sweep::Sweep;
 
 /// What a caller holds.
 #[derive(Clone)]
@@ -46,6 +46,7 @@ pub fn by_plain_program(step: &Step, tables: &Tables, held: &mut Held) -> u32 {
         counts: lists.counts.first(lengths.counts),
         quality_sums: lists.quality_sums.first(lengths.quality_sums),
         value_sums: lists.value_sums.first(lengths.value_sums),
+        weighted_sums: lists.weighted_sums.first(lengths.weighted_sums),
     };
     let new = match step {
         Step::Open(head, _) => Sweep::open(*head, sums),
@@ -61,6 +62,7 @@ pub fn by_plain_program(step: &Step, tables: &Tables, held: &mut Held) -> u32 {
                 counts: sums.counts,
                 quality_sums: sums.quality_sums,
                 value_sums: sums.value_sums,
+                weighted_sums: sums.weighted_sums,
             };
             let means = lists.means.first(lengths.means);
             let cell_qualities = lists.cell_qualities.first(lengths.cell_qualities);
@@ -80,6 +82,7 @@ pub fn by_library(step: &Step, as_c: bool, held: &mut Held) -> u32 {
         counts: lists.counts.first(lengths.counts),
         quality_sums: lists.quality_sums.first(lengths.quality_sums),
         value_sums: lists.value_sums.first(lengths.value_sums),
+        weighted_sums: lists.weighted_sums.first(lengths.weighted_sums),
     };
     let entries = &mut uldrevin::EntryLists {
         ledger: lists.ledger.first(lengths.ledger),

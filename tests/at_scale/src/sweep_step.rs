@@ -1,6 +1,7 @@
 //! The steps of a caller who feeds a sweep: calls, and alterations of what is handed on.
 
-use crate::output_lists::{Lengths, Lists};
+use crate::cell_sums::CellSums;
+use crate::output_lists::Lengths;
 use crate::scan_input::ScanInput;
 use plain_program::scan::Head;
 use plain_program::sweep::Sweep;
@@ -47,23 +48,6 @@ pub fn number_of<'a>(sweep: &'a mut Sweep, name: &str) -> &'a mut i64 {
         "taken" => taken,
         "closed" => closed,
         _ => panic!("a state has no {name}"),
-    }
-}
-
-/// The sums of a cell.
-#[derive(Clone, Copy, Debug, Default)]
-pub struct CellSums {
-    pub cell: usize,
-    pub count: u32,
-    pub quality_sum: u32,
-    pub value_sum: u64,
-}
-
-impl CellSums {
-    pub fn put(self, lists: &mut Lists) {
-        lists.counts.lent()[self.cell] = self.count;
-        lists.quality_sums.lent()[self.cell] = self.quality_sum;
-        lists.value_sums.lent()[self.cell] = self.value_sum;
     }
 }
 

@@ -1,9 +1,10 @@
-//! Times of a whole scan by the library, of the same gates fed to a sweep and by single calls, of the plain program, and of numpy with
-//! PROJ; then of one sine and one placement, and bytes of stack.
+//! Times of a whole scan by the library, which is a tally and publishing by quality, of the same gates fed to a sweep and by single calls,
+//! of the plain program, and of numpy with PROJ; of the tally and of publishing in both weightings alone; then of one sine and one
+//! placement, and bytes of stack.
 //!
-//! Every round works the whole scan and the plain program, for the scan of the full size the sweeps, every tenth the single calls too, and
-//! the best round of each counts. Nothing is asserted about speed; before anything is timed, the ledgers, marks and cells have to be the
-//! same.
+//! Every round works the whole scan, publishing plain besides, and the same by the plain program, for the scan of the full size the sweeps,
+//! every tenth the single calls too, and the best round of each counts. Nothing is asserted about speed; before anything is timed, the
+//! ledgers, marks, sums and cells of both weightings have to be the same.
 
 mod measure;
 mod one_call;
@@ -43,6 +44,7 @@ fn main() {
     report::print_times(&measured);
     report::print_ratios(&measured);
     report::print_growth(&measured);
+    report::print_parts(&measured);
     report::print_sweeps(&measured);
     let scene = scene::hrap(FULL_SIZE.0, FULL_SIZE.1);
     one_call::print_calls(&tables, &scene);

@@ -1,6 +1,6 @@
-//! The tables of times, ratios, growth and sweeps.
+//! The tables of times, ratios, growth, the single calls of a whole scan and sweeps.
 
-use crate::measure::{Times, GROUPS};
+use crate::measure::{Times, CALLS, GROUPS};
 use crate::scene::Scene;
 use crate::FULL_SIZE;
 
@@ -76,6 +76,30 @@ pub fn print_growth(measured: &[(Scene, Times)]) {
             growth * times.whole / base.whole,
             growth * times.plain / base.plain,
         );
+    }
+    println!();
+}
+
+/// Each call of the whole scan of the full size. Publishing goes over the cells, whatever the gates, so these are times of a call.
+pub fn print_parts(measured: &[(Scene, Times)]) {
+    println!("Tally and publishing of the scan of 360 x 230, microseconds a call, best round");
+    println!();
+    println!("| grid | call | library | plain program | library / plain |");
+    println!("|---|---|---|---|---|");
+    for (scene, times) in measured {
+        if (scene.head.rays, scene.head.gates) != FULL_SIZE {
+            continue;
+        }
+        let both = times.calls.into_iter().zip(times.plain_calls);
+        for (call, (library, plain)) in CALLS.into_iter().zip(both) {
+            println!(
+                "| {} | {call} | {:.1} | {:.1} | {:.2} |",
+                scene.name,
+                library / 1_000.0,
+                plain / 1_000.0,
+                library / plain,
+            );
+        }
     }
     println!();
 }

@@ -1,7 +1,8 @@
 //! The scans that are measured: one site and one grid, more or fewer gates.
 
 use uldrevin::{
-    place, GateLists, Grid, HrapGrid, RadolanGrid, Remapped, ScanHead, Site, Weighting,
+    place, Cells, EntryLists, GateLists, Grid, HrapGrid, RadolanGrid, ScanHead, Site, SumLists,
+    Sums, Tally, Weighting,
 };
 
 const MESH_SIDE: i64 = 476_250;
@@ -24,17 +25,41 @@ impl Scene {
     }
 }
 
+/// All lists that a scan is worked into.
+pub struct Lists {
+    pub tally: Tally,
+    pub cells: Cells,
+}
+
+impl Lists {
+    pub fn lent(&mut self) -> (EntryLists<'_>, SumLists<'_>, &mut Cells) {
+        let Tally {
+            ledger,
+            marks,
+            sums,
+        } = &mut self.tally;
+        (EntryLists { ledger, marks }, sums.lists(), &mut self.cells)
+    }
+}
+
 /// Lists of the scene's sizes, with something else in them than it gives.
-pub fn lists_of(scene: &Scene) -> Remapped {
+pub fn lists_of(scene: &Scene) -> Lists {
     let (gates, cells) = (scene.head.all_gates(), scene.head.all_cells());
-    Remapped {
-        ledger: vec![1; gates],
-        marks: vec![2; gates],
-        counts: vec![1; cells],
-        quality_sums: vec![1; cells],
-        value_sums: vec![1; cells],
-        means: vec![1; cells],
-        cell_qualities: vec![1; cells],
+    Lists {
+        tally: Tally {
+            ledger: vec![1; gates],
+            marks: vec![2; gates],
+            sums: Sums {
+                counts: vec![1; cells],
+                quality_sums: vec![1; cells],
+                value_sums: vec![1; cells],
+                weighted_sums: vec![1; cells],
+            },
+        },
+        cells: Cells {
+            means: vec![1; cells],
+            cell_qualities: vec![1; cells],
+        },
     }
 }
 

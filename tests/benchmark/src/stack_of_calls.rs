@@ -3,8 +3,7 @@
 use std::hint::black_box;
 
 use uldrevin::{
-    place, read_record_into, record_head, remap_into, sine, write_record_into, EntryLists,
-    SumLists, Sweep,
+    place, publish_into, read_record_into, record_head, sine, tally_into, write_record_into, Sweep,
 };
 
 use crate::scene::{hrap, lists_of, Scene};
@@ -41,21 +40,13 @@ fn print_records() {
 /// All rays are taken at once.
 fn print_sweep(scene: &Scene) {
     let (head, mut lists) = (scene.head, lists_of(scene));
-    let entries = &mut EntryLists {
-        ledger: &mut lists.ledger,
-        marks: &mut lists.marks,
-    };
-    let sums = &mut SumLists {
-        counts: &mut lists.counts,
-        quality_sums: &mut lists.quality_sums,
-        value_sums: &mut lists.value_sums,
-    };
+    let (entries, sums, cells) = &mut lists.lent();
     let good = "a good scan";
     let mut sweep = Sweep::open(head, sums).expect(good);
     let opened = used(|| sweep = Sweep::open(head, sums).expect(good));
     let rays = scene.gate_lists();
     let taken = used(|| sweep = sweep.take(rays, entries, sums).expect(good));
-    let (means, cell_qualities) = (&mut lists.means, &mut lists.cell_qualities);
+    let (means, cell_qualities) = (&mut cells.means, &mut cells.cell_qualities);
     let closed = used(|| sweep.close(sums, means, cell_qualities).expect(good));
     print_row("Sweep::open", opened);
     print_row("Sweep::take", taken);
@@ -70,8 +61,12 @@ pub fn print_stack(scene: &Scene) {
     println!("|---|---|");
     print_row("sine", used(|| sine(black_box(1))));
     print_row("place", used(|| place(head.site, head.grid, 5, 5)));
-    let remapped = used(|| remap_into(head, scene.gate_lists(), lists.lists()));
-    print_row("remap_into", remapped);
+    let (entries, sums, cells) = &mut lists.lent();
+    let tallied = used(|| tally_into(head, scene.gate_lists(), entries, sums));
+    let (means, cell_qualities) = (&mut cells.means, &mut cells.cell_qualities);
+    let published = used(|| publish_into(head.weighting, sums, means, cell_qualities));
+    print_row("tally_into", tallied);
+    print_row("publish_into", published);
     print_sweep(scene);
     print_records();
 }

@@ -1,8 +1,8 @@
 //! A scan fed to a sweep.
 
-use uldrevin::{EntryLists, GateLists, Refusal, Remapped, SumLists, Sweep};
+use uldrevin::{GateLists, Refusal, Sweep};
 
-use crate::scene::Scene;
+use crate::scene::{Lists, Scene};
 
 /// So many rays of the scene at a time, fewer at the end.
 fn groups(scene: &Scene, rays: usize) -> impl Iterator<Item = GateLists<'_>> {
@@ -20,25 +20,17 @@ fn groups(scene: &Scene, rays: usize) -> impl Iterator<Item = GateLists<'_>> {
         })
 }
 
-fn sweep(scene: &Scene, rays: usize, lists: &mut Remapped) -> Result<Sweep, Refusal> {
-    let entries = &mut EntryLists {
-        ledger: &mut lists.ledger,
-        marks: &mut lists.marks,
-    };
-    let sums = &mut SumLists {
-        counts: &mut lists.counts,
-        quality_sums: &mut lists.quality_sums,
-        value_sums: &mut lists.value_sums,
-    };
+fn sweep(scene: &Scene, rays: usize, lists: &mut Lists) -> Result<Sweep, Refusal> {
+    let (entries, sums, cells) = &mut lists.lent();
     let mut sweep = Sweep::open(scene.head, sums)?;
     for group in groups(scene, rays) {
         sweep = sweep.take(group, entries, sums)?;
     }
-    sweep.close(sums, &mut lists.means, &mut lists.cell_qualities)
+    sweep.close(sums, &mut cells.means, &mut cells.cell_qualities)
 }
 
 /// Opens a sweep, feeds it so many rays at a time, and closes it. Answers the refusal, or 0.
-pub fn swept(scene: &Scene, rays: usize, lists: &mut Remapped) -> u32 {
+pub fn swept(scene: &Scene, rays: usize, lists: &mut Lists) -> u32 {
     match sweep(scene, rays, lists) {
         Ok(_) => 0,
         Err(refusal) => refusal.number,

@@ -1,12 +1,13 @@
-//! Document 02, T-01: a scan that is opened, fed with one ray or several at a time, and closed. T-02's marks go with the ledger.
+//! Document 02, T-01: a scan that is opened, fed with one ray or several at a time, and closed. T-02's marks go with the ledger, and
+//! both value sums of T-05 are kept, whatever the weighting.
 //!
 //! Each operation takes the state by value and gives the new one. The totals of a group are worked out in wide numbers, and nothing is
 //! written before every refusal has been ruled out.
 
 use crate::placement::{Grid, HRAP_KIND, HRAP_SIDE};
 use crate::scan::{
-    cell_length, check_contents, check_head, entries_of, publish, Entries, Given, Head, Sums,
-    BY_QUALITY, NOT_MEASURED, NO_ECHO, OUTSIDE, PLAIN,
+    cell_length, check_cells, check_contents, check_head, check_sums, echo, entries_of, publish,
+    Entries, Given, Head, LentSums, Sums, BY_QUALITY, NOT_MEASURED, OUTSIDE, PLAIN,
 };
 use crate::sine::Tables;
 use std::collections::BTreeMap;
@@ -24,24 +25,6 @@ pub struct Sweep {
     pub head: Head,
     pub taken: i64,
     pub closed: i64,
-}
-
-/// The sums that opening clears and rays are added to.
-#[derive(Debug)]
-pub struct LentSums<'a> {
-    pub counts: &'a mut [u32],
-    pub quality_sums: &'a mut [u32],
-    pub value_sums: &'a mut [u64],
-}
-
-impl LentSums<'_> {
-    fn read(&self) -> Sums<'_> {
-        Sums {
-            counts: self.counts,
-            quality_sums: self.quality_sums,
-            value_sums: self.value_sums,
-        }
-    }
 }
 
 /// A number of rays as it is compared: one outside 0 to 4,294,967,295 is that limit.
@@ -69,15 +52,6 @@ fn in_plain_form(head: Head) -> Head {
     }
 }
 
-/// Refusal 6 for the sums.
-fn check_sums(grid: Grid, sums: Sums) -> Result<(), u32> {
-    let cells = cell_length(grid);
-    let exact = sums.counts.len() == cells
-        && sums.quality_sums.len() == cells
-        && sums.value_sums.len() == cells;
-    exact.then_some(()).ok_or(6)
-}
-
 /// The ledger entries and the marks of a group's gates.
 fn group_entries(tables: &Tables, head: &Head, given: Given) -> (Vec<u32>, Vec<u8>) {
     let gates = given.values.len();
@@ -96,49 +70,55 @@ struct Added {
     count: u128,
     quality: u128,
     value: u128,
+    weighted: u128,
 }
 
 /// What a group adds to each cell that it reaches.
-fn added_by(weighting: i64, ledger: &[u32], given: Given) -> BTreeMap<usize, Added> {
+fn added_by(ledger: &[u32], given: Given) -> BTreeMap<usize, Added> {
     let mut cells: BTreeMap<usize, Added> = BTreeMap::new();
     for ((&entry, &value), &quality) in ledger.iter().zip(given.values).zip(given.qualities) {
         if entry == OUTSIDE || value == NOT_MEASURED {
             continue;
         }
-        let echo = match value {
-            NO_ECHO => 0,
-            _ => u128::from(value),
-        };
+        let (counted, quality) = (u128::from(echo(value)), u128::from(quality));
         let added = cells.entry(entry as usize).or_default();
         added.count += 1;
-        added.quality += u128::from(quality);
-        added.value += match weighting {
-            PLAIN => echo,
-            _ => echo * u128::from(quality),
-        };
+        added.quality += quality;
+        added.value += counted;
+        added.weighted += counted * quality;
     }
     cells
 }
 
+/// The sums of a cell.
+struct Grown {
+    count: u32,
+    quality: u32,
+    value: u64,
+    weighted: u64,
+}
+
+/// The number with what is added, or refusal 31 where that passes its width.
+fn sum<T: Copy + Into<u128> + TryFrom<u128>>(number: T, added: u128) -> Result<T, u32> {
+    T::try_from(number.into() + added).map_err(|_| 31)
+}
+
 /// The cell's count and sums with the group added, or refusal 31.
-fn grown(sums: Sums, cell: usize, added: Added) -> Result<(u32, u32, u64), u32> {
-    let count = u128::from(sums.counts[cell]) + added.count;
-    let quality = u128::from(sums.quality_sums[cell]) + added.quality;
-    let value = u128::from(sums.value_sums[cell]) + added.value;
-    match (count.try_into(), quality.try_into(), value.try_into()) {
-        (Ok(count), Ok(quality), Ok(value)) => Ok((count, quality, value)),
-        _ => Err(31),
-    }
+fn grown(sums: Sums, cell: usize, added: Added) -> Result<Grown, u32> {
+    Ok(Grown {
+        count: sum(sums.counts[cell], added.count)?,
+        quality: sum(sums.quality_sums[cell], added.quality)?,
+        value: sum(sums.value_sums[cell], added.value)?,
+        weighted: sum(sums.weighted_sums[cell], added.weighted)?,
+    })
 }
 
 impl Sweep {
     /// Clears the sums and gives a state with no ray taken. Refusals 1 to 6.
-    pub fn open(head: Head, sums: LentSums) -> Result<Sweep, u32> {
+    pub fn open(head: Head, mut sums: LentSums) -> Result<Sweep, u32> {
         check_head(&head)?;
-        check_sums(head.grid, sums.read())?;
-        sums.counts.fill(0);
-        sums.quality_sums.fill(0);
-        sums.value_sums.fill(0);
+        check_sums(cell_length(head.grid), sums.read())?;
+        sums.clear();
         Ok(Sweep {
             head: in_plain_form(head),
             taken: 0,
@@ -168,7 +148,7 @@ impl Sweep {
         if !exact {
             return Err(6);
         }
-        check_sums(self.head.grid, sums)
+        check_sums(cell_length(self.head.grid), sums)
     }
 
     /// Takes the rays of a group. Refusals 19, 17, 1 to 8, 31.
@@ -183,15 +163,15 @@ impl Sweep {
         self.check_group(given, &lent, sums.read())?;
         check_contents(given.azimuths.iter().copied(), given.qualities)?;
         let (ledger, marks) = group_entries(tables, &self.head, given);
-        let added = added_by(self.head.weighting, &ledger, given);
-        let grown: Vec<_> = added
+        let grown: Vec<_> = added_by(&ledger, given)
             .into_iter()
             .map(|(cell, added)| Ok((cell, grown(sums.read(), cell, added)?)))
             .collect::<Result<_, u32>>()?;
-        for (cell, (count, quality, value)) in grown {
-            sums.counts[cell] = count;
-            sums.quality_sums[cell] = quality;
-            sums.value_sums[cell] = value;
+        for (cell, grown) in grown {
+            sums.counts[cell] = grown.count;
+            sums.quality_sums[cell] = grown.quality;
+            sums.value_sums[cell] = grown.value;
+            sums.weighted_sums[cell] = grown.weighted;
         }
         let first = (self.taken * self.head.gates) as usize;
         lent.ledger[first..][..ledger.len()].copy_from_slice(&ledger);
@@ -203,7 +183,7 @@ impl Sweep {
         })
     }
 
-    /// Publishes the cells and gives a closed state. Refusals 19, 17, 1 to 5, 18, 6.
+    /// Publishes the cells in the weighting that it was opened with and gives a closed state. Refusals 19, 17, 1 to 5, 18, 6.
     pub fn close(
         self,
         sums: Sums,
@@ -214,12 +194,10 @@ impl Sweep {
         if self.taken < self.head.rays {
             return Err(18);
         }
-        check_sums(self.head.grid, sums)?;
         let cells = cell_length(self.head.grid);
-        if means.len() != cells || cell_qualities.len() != cells {
-            return Err(6);
-        }
-        publish(self.head.weighting, sums, means, cell_qualities);
+        check_sums(cells, sums)?;
+        check_cells(cells, means, cell_qualities)?;
+        publish(self.head.weighting, sums, means, cell_qualities)?;
         Ok(Sweep {
             head: in_plain_form(self.head),
             taken: self.taken,
@@ -244,6 +222,7 @@ mod tests {
         counts: [u32; 2],
         quality_sums: [u32; 2],
         value_sums: [u64; 2],
+        weighted_sums: [u64; 2],
         means: [u16; 2],
         cell_qualities: [u8; 2],
     }
@@ -254,6 +233,7 @@ mod tests {
         counts: [9; 2],
         quality_sums: [9; 2],
         value_sums: [9; 2],
+        weighted_sums: [9; 2],
         means: [9; 2],
         cell_qualities: [9; 2],
     };
@@ -263,6 +243,7 @@ mod tests {
             counts: &mut lists.counts,
             quality_sums: &mut lists.quality_sums,
             value_sums: &mut lists.value_sums,
+            weighted_sums: &mut lists.weighted_sums,
         };
         Sweep::open(head, sums)
     }
@@ -272,6 +253,7 @@ mod tests {
             counts: &mut lists.counts,
             quality_sums: &mut lists.quality_sums,
             value_sums: &mut lists.value_sums,
+            weighted_sums: &mut lists.weighted_sums,
         };
         let entries = Entries {
             ledger: &mut lists.ledger,
@@ -285,6 +267,7 @@ mod tests {
             counts: &lists.counts,
             quality_sums: &lists.quality_sums,
             value_sums: &lists.value_sums,
+            weighted_sums: &lists.weighted_sums,
         };
         sweep.close(sums, &mut lists.means, &mut lists.cell_qualities)
     }
@@ -329,7 +312,7 @@ mod tests {
         assert_eq!(lists.ledger, [1; 4]);
         assert_eq!(lists.marks, [1, 0, 1, 0]);
         assert_eq!((lists.counts, lists.quality_sums), ([0, 4], [0, 200]));
-        assert_eq!(lists.value_sums, [0, 320]);
+        assert_eq!((lists.value_sums, lists.weighted_sums), ([0, 16], [0, 320]));
         assert_eq!((lists.means, lists.cell_qualities), ([NO_MEAN, 1], [0, 50]));
         let mut at_once = BEFORE;
         let opened = open(TWO_RAYS, &mut at_once).unwrap();
@@ -403,6 +386,7 @@ mod tests {
                 counts: &mut lists.counts,
                 quality_sums: &mut lists.quality_sums,
                 value_sums: &mut lists.value_sums,
+                weighted_sums: &mut lists.weighted_sums,
             };
             let taken = sweep.take(&Tables::new(), RAY, Entries { ledger, marks }, sums);
             taken.map(|sweep| sweep.taken)
@@ -447,7 +431,7 @@ mod tests {
         }
     }
 
-    /// The answer to a further ray, whose gates add 2, 100 and 160 to cell 1, with one of its sums altered; a refusal leaves the lists.
+    /// The answer to a further ray, whose gates add 2, 100, 8 and 160 to cell 1, with one of its sums altered; a refusal leaves the lists.
     fn take_with(alter: impl Fn(&mut Lists)) -> Result<i64, u32> {
         let (sweep, mut lists) = half();
         alter(&mut lists);
@@ -466,36 +450,74 @@ mod tests {
         let most = u32::MAX - 100;
         assert_eq!(take_with(|lists| lists.quality_sums[1] = most), Ok(2));
         assert_eq!(take_with(|lists| lists.quality_sums[1] = most + 1), Err(31));
-        let most = u64::MAX - 160;
+        let most = u64::MAX - 8;
         assert_eq!(take_with(|lists| lists.value_sums[1] = most), Ok(2));
         assert_eq!(take_with(|lists| lists.value_sums[1] = most + 1), Err(31));
+        let most = u64::MAX - 160;
+        assert_eq!(take_with(|lists| lists.weighted_sums[1] = most), Ok(2));
+        assert_eq!(
+            take_with(|lists| lists.weighted_sums[1] = most + 1),
+            Err(31)
+        );
         let other_cell = |lists: &mut Lists| {
             lists.counts[0] = u32::MAX;
             lists.quality_sums[0] = u32::MAX;
             lists.value_sums[0] = u64::MAX;
+            lists.weighted_sums[0] = u64::MAX;
         };
         assert_eq!(take_with(other_cell), Ok(2));
     }
 
-    /// Mean and quality of cell 1, whose divisor is the quality sum, from altered sums.
-    fn published(count: u32, quality_sum: u32, value_sum: u64) -> (u16, u8) {
+    /// Both value sums grow, also in a sweep that is plain.
+    #[test]
+    fn both_value_sums_in_each_weighting() {
+        for weighting in [PLAIN, BY_QUALITY, -5] {
+            let mut lists = BEFORE;
+            let head = Head {
+                weighting,
+                ..TWO_RAYS
+            };
+            let opened = open(head, &mut lists).unwrap();
+            take(opened, BOTH, &mut lists).unwrap();
+            assert_eq!((lists.value_sums[1], lists.weighted_sums[1]), (16, 320));
+        }
+    }
+
+    /// Mean and quality of cell 1 from altered sums, in the weighting.
+    fn published(weighting: i64, sums: (u32, u32, u64, u64)) -> (u16, u8) {
         let (sweep, mut lists) = half();
+        let (count, quality_sum, value_sum, weighted_sum) = sums;
         lists.counts[1] = count;
         lists.quality_sums[1] = quality_sum;
         lists.value_sums[1] = value_sum;
-        close(Sweep { taken: 2, ..sweep }, &mut lists).unwrap();
+        lists.weighted_sums[1] = weighted_sum;
+        let head = Head {
+            weighting,
+            ..TWO_RAYS
+        };
+        let full = Sweep {
+            head,
+            taken: 2,
+            ..sweep
+        };
+        close(full, &mut lists).unwrap();
         (lists.means[1], lists.cell_qualities[1])
     }
 
     #[test]
     fn altered_sums_published() {
-        assert_eq!(published(1, 100, 6_553_399), (65_533, 100));
-        assert_eq!(published(1, 100, 6_553_400), (NO_MEAN, 100));
-        assert_eq!(published(2, 201, 0), (0, 100));
-        assert_eq!(published(2, 202, 0), (0, 100));
-        assert_eq!(published(1, u32::MAX, u64::MAX), (NO_MEAN, 100));
-        assert_eq!(published(0, 1, 1), (1, 0));
-        assert_eq!(published(1, 0, 1), (NO_MEAN, 0));
+        let by_quality = |sums| published(BY_QUALITY, sums);
+        assert_eq!(by_quality((1, 100, 0, 6_553_399)), (65_533, 100));
+        assert_eq!(by_quality((1, 100, 0, 6_553_400)), (NO_MEAN, 100));
+        assert_eq!(by_quality((2, 202, 0, 0)), (0, 100));
+        assert_eq!(by_quality((1, u32::MAX, 0, u64::MAX)), (NO_MEAN, 100));
+        assert_eq!(by_quality((0, 1, 5, 1)), (1, 0));
+        assert_eq!(by_quality((1, 0, 5, 1)), (NO_MEAN, 0));
+        let plain = |sums| published(PLAIN, sums);
+        assert_eq!(plain((1, 100, 65_533, 0)), (65_533, 100));
+        assert_eq!(plain((1, 100, 65_534, 0)), (NO_MEAN, 100));
+        assert_eq!(plain((0, 1, 5, 1)), (NO_MEAN, 0));
+        assert_eq!(plain((1, 0, 5, 1)), (5, 0));
     }
 
     #[test]
