@@ -1,7 +1,4 @@
-/*
- * Reads a scan record from standard input and prints its grid, as the program sheet does, then the least and the greatest value of each
- * cell with a count, then its ledger with the marks.
- */
+/* Reads a scan record from standard input and prints its grid, as the program sheet does, then its ledger with the marks. */
 #include <inttypes.h>
 #include <stdio.h>
 #include <stdlib.h>
@@ -21,7 +18,7 @@ struct scan {
 struct grid {
     uint32_t *ledger, *counts, *quality_sums;
     uint64_t *value_sums, *weighted_sums;
-    uint16_t *least, *greatest, *means;
+    uint16_t *means;
     uint8_t *marks, *cell_qualities;
 };
 
@@ -66,11 +63,9 @@ static uint32_t tally(const struct scan *scan, struct grid *grid)
     grid->quality_sums = list(cells, sizeof *grid->quality_sums);
     grid->value_sums = list(cells, sizeof *grid->value_sums);
     grid->weighted_sums = list(cells, sizeof *grid->weighted_sums);
-    grid->least = list(cells, sizeof *grid->least);
-    grid->greatest = list(cells, sizeof *grid->greatest);
     return uldrevin_tally(&scan->head, scan->azimuths, rays, scan->values, gates, scan->qualities, gates,
                           grid->ledger, gates, grid->marks, gates, grid->counts, cells, grid->quality_sums, cells,
-                          grid->value_sums, cells, grid->weighted_sums, cells, grid->least, cells, grid->greatest, cells);
+                          grid->value_sums, cells, grid->weighted_sums, cells);
 }
 
 /* In the weighting that the record names. */
@@ -102,15 +97,6 @@ static void print_grid(const struct scan *scan, const struct grid *grid)
                    grid->means[cell], grid->cell_qualities[cell], grid->counts[cell]);
 }
 
-static void print_extremes(const struct scan *scan, const struct grid *grid)
-{
-    size_t columns = (size_t)scan->head.grid.columns;
-    printf("least and greatest\n");
-    for (size_t cell = 0; cell < cells_of(scan); cell++)
-        if (grid->counts[cell] != 0)
-            printf("%zu %zu %u %u\n", cell % columns, cell / columns, grid->least[cell], grid->greatest[cell]);
-}
-
 static void print_ledger(const struct scan *scan, const struct grid *grid)
 {
     size_t gates = (size_t)scan->head.gates;
@@ -138,7 +124,6 @@ int main(void)
         return 1;
     }
     print_grid(&scan, &grid);
-    print_extremes(&scan, &grid);
     print_ledger(&scan, &grid);
     return 0;
 }

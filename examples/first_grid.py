@@ -1,5 +1,4 @@
-"""Reads a scan record from standard input, and prints its sheet, the least and the greatest value of each cell with a count, and its
-ledger with the marks.
+"""Reads a scan record from standard input, and prints its sheet and its ledger with the marks.
 
     python3 examples/first_grid.py < examples/hrap.scan
 """
@@ -20,13 +19,6 @@ def print_sheet(grid, gates, counts, cells):
             print(cell % grid.columns, cell // grid.columns, means[cell], qualities[cell], count)
 
 
-def print_extremes(grid, counts, extremes):
-    print("least and greatest")
-    for cell, (count, least, greatest) in enumerate(zip(*map(uldrevin.flat, (counts, *extremes)))):
-        if count != 0:
-            print(cell % grid.columns, cell // grid.columns, least, greatest)
-
-
 def print_ledger(gates_in_ray, ledger, marks):
     print("ledger")
     for gate, (cell, mark) in enumerate(zip(ledger, marks)):
@@ -43,7 +35,6 @@ def main():
     cells = uldrevin.publish(scan.weighting, *tally.sums)
     ledger, marks = uldrevin.flat(tally.ledger), uldrevin.flat(tally.marks)
     print_sheet(scan.grid, len(ledger), tally.sums.counts, cells)
-    print_extremes(scan.grid, tally.sums.counts, tally.extremes)
     print_ledger(len(ledger) // len(scan.azimuths), ledger, marks)
     return 0
 

@@ -2,8 +2,8 @@
 
     python3 examples/storm.py [PICTURE]
 
-It prints the ledger of the cell, with its mean, quality, least and greatest value, and draws the cells' mean, quality and count into the
-picture, target/storm.png by default. Values are rain in hundredths of a millimetre an hour, which is this storm's own choice of unit.
+It prints the ledger of the cell, and draws the cells' mean, quality and count into the picture, target/storm.png by default. Values are
+rain in hundredths of a millimetre an hour, which is this storm's own choice of unit.
 """
 import sys
 from math import cos, radians, sin
@@ -125,9 +125,9 @@ def gate_line(scan, place):
 
 
 def ledger_lines(scan, remapped, cell):
-    """The gates of the cell, how its mean and quality come from them, and its least and greatest value."""
+    """The gates of the cell, and how its mean and quality come from them."""
     places = [place for place, entry in enumerate(flat(remapped.ledger)) if entry == cell]
-    count, quality_sum, _, weighted_sum, least, greatest, mean, quality = (flat(cells)[cell] for cells in remapped[2:])
+    count, quality_sum, _, weighted_sum, mean, quality = (flat(cells)[cell] for cells in remapped[2:])
     return [
         f"Column {cell % SIDE_CELLS}, row {cell // SIDE_CELLS}: ledger entry {cell}",
         "",
@@ -140,7 +140,6 @@ def ledger_lines(scan, remapped, cell):
         "",
         f"mean    = floor({weighted_sum} / {quality_sum}) = {mean}",
         f"quality = floor({quality_sum} / {count}) = {quality}",
-        f"least   = {least}, greatest = {greatest}",
         "",
         f"{NO_ECHO} is no echo and counts as 0;",
         f"{NOT_MEASURED} is not measured, and neither",

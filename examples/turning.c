@@ -1,7 +1,4 @@
-/*
- * Reads a scan record from standard input, feeds its rays one at a time to a sweep, and prints its grid, as the program sheet does, then
- * the least and the greatest value of each cell with a count.
- */
+/* Reads a scan record from standard input, feeds its rays one at a time to a sweep, and prints its grid, as the program sheet does. */
 #include <inttypes.h>
 #include <stdio.h>
 #include <stdlib.h>
@@ -21,7 +18,7 @@ struct scan {
 struct grid {
     uint32_t *ledger, *counts, *quality_sums;
     uint64_t *value_sums, *weighted_sums;
-    uint16_t *least, *greatest, *means;
+    uint16_t *means;
     uint8_t *marks, *cell_qualities;
 };
 
@@ -58,18 +55,16 @@ static uint32_t feed(const struct scan *scan, struct grid *grid)
     grid->quality_sums = list(cells, sizeof *grid->quality_sums);
     grid->value_sums = list(cells, sizeof *grid->value_sums);
     grid->weighted_sums = list(cells, sizeof *grid->weighted_sums);
-    grid->least = list(cells, sizeof *grid->least);
-    grid->greatest = list(cells, sizeof *grid->greatest);
     grid->means = list(cells, sizeof *grid->means);
     grid->cell_qualities = list(cells, sizeof *grid->cell_qualities);
 
     uint32_t refusal = uldrevin_sweep_open(&scan->head, grid->counts, cells, grid->quality_sums, cells, grid->value_sums, cells,
-                                           grid->weighted_sums, cells, grid->least, cells, grid->greatest, cells, &sweep);
+                                           grid->weighted_sums, cells, &sweep);
     for (size_t ray = 0; ray < rays && refusal == 0; ray++)
         refusal = uldrevin_sweep_take(&sweep, scan->azimuths + ray, 1, scan->values + ray * gates, gates,
                                       scan->qualities + ray * gates, gates, grid->ledger, rays * gates, grid->marks, rays * gates,
                                       grid->counts, cells, grid->quality_sums, cells, grid->value_sums, cells,
-                                      grid->weighted_sums, cells, grid->least, cells, grid->greatest, cells);
+                                      grid->weighted_sums, cells);
     if (refusal == 0)
         refusal = uldrevin_sweep_close(&sweep, grid->counts, cells, grid->quality_sums, cells, grid->value_sums, cells,
                                        grid->weighted_sums, cells, grid->means, cells, grid->cell_qualities, cells);
@@ -90,15 +85,6 @@ static void print_grid(const struct uldrevin_scan *head, const struct grid *grid
                    grid->means[cell], grid->cell_qualities[cell], grid->counts[cell]);
 }
 
-static void print_extremes(const struct uldrevin_scan *head, const struct grid *grid)
-{
-    size_t columns = (size_t)head->grid.columns, cells = columns * (size_t)head->grid.rows;
-    printf("least and greatest\n");
-    for (size_t cell = 0; cell < cells; cell++)
-        if (grid->counts[cell] != 0)
-            printf("%zu %zu %u %u\n", cell % columns, cell / columns, grid->least[cell], grid->greatest[cell]);
-}
-
 int main(void)
 {
     static uint8_t record[MOST_BYTES];
@@ -113,6 +99,5 @@ int main(void)
         return 1;
     }
     print_grid(&scan.head, &grid);
-    print_extremes(&scan.head, &grid);
     return 0;
 }

@@ -4,8 +4,7 @@
 
 The scan is the storm of storm.py, on a window of 7 by 9 HRAP cells at the edge of its ridge, behind which gates have two fifths of their
 quality. It prints the means of both sheets, south at the bottom, with a * behind those that differ; then of the cell with the greatest
-difference, the first such, its gates, its four sums, both means as divisions, which are never rounded upwards, and the least and the
-greatest value, between which both means lie.
+difference, the first such, its gates, its four sums, and both means as divisions, which are never rounded upwards.
 """
 from storm import GATES, flat, storm  # which puts the module for Python on the path
 
@@ -67,16 +66,14 @@ def division(words, dividend, divisor, mean):
 
 
 def cell_lines(scan, tally, cell, plain, by_quality):
-    """The gates of a cell, its sums, how its two means come from them, and its least and greatest value."""
+    """The gates of a cell, its sums, and how its two means come from them."""
     places = [place for place, entry in enumerate(flat(tally.ledger)) if entry == cell]
     count, quality_sum, value_sum, weighted_sum = (flat(sums)[cell] for sums in tally.sums)
-    least, greatest = (flat(extremes)[cell] for extremes in tally.extremes)
     yield f"Column {cell % COLUMNS}, row {cell // COLUMNS}, cell {cell}, has the greatest difference. Its gates:"
     yield from gate_lines(scan, places)
     yield f"count {count:,}, quality sum {quality_sum:,}, value sum {value_sum:,}, sum of value x quality {weighted_sum:,}"
     yield division("plain", value_sum, count, plain[cell])
     yield division("by quality", weighted_sum, quality_sum, by_quality[cell])
-    yield f"least value {least:,}, greatest value {greatest:,}"
 
 
 def main():

@@ -2,10 +2,10 @@
  * Uldrevin: radar gates to cells of the American HRAP mesh or the German RADOLAN raster, in whole numbers.
  *
  * Link with target/staticlib/libuldrevin.a or target/libuldrevin.so, which `make library` builds for x86-64 Linux. Each function here is
- * proved to follow the rules ("document 01", and "document 02" for a sweep, the mark, publishing apart from the tally, and the least and
- * the greatest value of a cell) for every number that its parameters, structs and lists can hold, where the pointers are as said under
- * "Pointers"; docs/STATEMENTS.md lists what is proved. A wider number that is passed for a narrower one, such as one of 64 bits for the
- * number of a field, is cut by C before the call, and the answer is that of what is left.
+ * proved to follow the rules ("document 01", and "document 02" for a sweep, the mark and publishing apart from the tally) for every number
+ * that its parameters, structs and lists can hold, where the pointers are as said under "Pointers"; docs/STATEMENTS.md lists what is
+ * proved. A wider number that is passed for a narrower one, such as one of 64 bits for the number of a field, is cut by C before the call,
+ * and the answer is that of what is left.
  *
  * Units. Angles are ten-thousandths of a degree, lengths are centimetres. Azimuths are clockwise from north, longitudes east positive.
  *
@@ -59,8 +59,6 @@ extern "C" {
 #define ULDREVIN_NOT_MEASURED UINT16_C(65535)
 /* The mean of a cell whose divisor is 0, or whose sums give more than 65,533, as those of a tally never do. */
 #define ULDREVIN_NO_MEAN UINT16_C(65535)
-/* The least value of a cell with no measured gate, whose greatest is 0. */
-#define ULDREVIN_NO_LEAST UINT16_C(65535)
 
 /* The sine and the cosine of any angle, times 2^30. */
 int64_t uldrevin_sine(int64_t angle);
@@ -125,8 +123,6 @@ uint32_t uldrevin_place(const struct uldrevin_site *site, const struct uldrevin_
  *   quality_sums    one a cell: the sum of their qualities
  *   value_sums      one a cell: the sum of their values
  *   weighted_sums   one a cell: the sum of their values, each times its quality
- *   least           one a cell: the least of their values, no echo as 0, whatever their qualities; ULDREVIN_NO_LEAST for count 0
- *   greatest        one a cell: the greatest of their values, no echo as 0, whatever their qualities; 0 for count 0
  * Refusals: 1 to 8.
  */
 uint32_t uldrevin_tally(const struct uldrevin_scan *scan,
@@ -138,14 +134,12 @@ uint32_t uldrevin_tally(const struct uldrevin_scan *scan,
                         uint32_t *counts, size_t counts_length,
                         uint32_t *quality_sums, size_t quality_sums_length,
                         uint64_t *value_sums, size_t value_sums_length,
-                        uint64_t *weighted_sums, size_t weighted_sums_length,
-                        uint16_t *least, size_t least_length,
-                        uint16_t *greatest, size_t greatest_length);
+                        uint64_t *weighted_sums, size_t weighted_sums_length);
 
 /*
  * Publishes cells from sums. weighting: 0 plain, any other number by quality. In come counts, quality_sums, value_sums and weighted_sums,
- * one a cell, of any number of cells, 0 too. Any sums are accepted, those of a tally or a sweep and all others. Cells are made of these
- * four alone, without least and greatest. Out go; what these lists held before plays no part:
+ * one a cell, of any number of cells, 0 too. Any sums are accepted, those of a tally or a sweep and all others. Out go; what these lists
+ * held before plays no part:
  *   means           one a cell: plain, the value sum by the count; by quality, the weighted sum by the quality sum; never rounded upwards;
  *                   ULDREVIN_NO_MEAN for divisor 0, and where the sums give more than 65,533
  *   cell_qualities  one a cell, in either weighting: the quality sum by the count, never rounded upwards; 0 for count 0, and 100 where the
@@ -163,10 +157,10 @@ uint32_t uldrevin_publish(int64_t weighting,
 /*
  * A sweep: a scan that is fed ray by ray while the antenna turns. It is opened with the numbers of the scan, takes one ray or several at a
  * time, and is closed. Its lists are as long as those of the whole scan from the start. While a caller hands on the latest sweep and
- * untouched lists, the ledger and the marks of the rays taken, the sums, and least and greatest are those that uldrevin_tally gives for the
- * whole scan of these rays, however they were divided, and after closing the cells are those that uldrevin_publish gives from these sums in
- * the weighting of the scan. From the same sums uldrevin_publish gives the cells in either weighting, at any time. A group of rays with one
- * bad ray is refused whole, and the sweep goes on without it.
+ * untouched lists, the ledger and the marks of the rays taken, and the sums, are those that uldrevin_tally gives for the whole scan of
+ * these rays, however they were divided, and after closing the cells are those that uldrevin_publish gives from these sums in the weighting
+ * of the scan. From the same sums uldrevin_publish gives the cells in either weighting, at any time. A group of rays with one bad ray is
+ * refused whole, and the sweep goes on without it.
  *
  * It is plain numbers, which a caller may keep, copy or alter: they are tested again at each call, and a call that is done writes them all.
  */
@@ -184,8 +178,6 @@ struct uldrevin_sweep {
  *   quality_sums    one a cell: 0
  *   value_sums      one a cell: 0
  *   weighted_sums   one a cell: 0
- *   least           one a cell: ULDREVIN_NO_LEAST
- *   greatest        one a cell: 0
  *   sweep           the scan's numbers, no ray taken, not closed
  * Refusals, in this order: 1 to 6.
  */
@@ -194,8 +186,6 @@ uint32_t uldrevin_sweep_open(const struct uldrevin_scan *scan,
                              uint32_t *quality_sums, size_t quality_sums_length,
                              uint64_t *value_sums, size_t value_sums_length,
                              uint64_t *weighted_sums, size_t weighted_sums_length,
-                             uint16_t *least, size_t least_length,
-                             uint16_t *greatest, size_t greatest_length,
                              struct uldrevin_sweep *sweep);
 
 /*
@@ -211,8 +201,6 @@ uint32_t uldrevin_sweep_open(const struct uldrevin_scan *scan,
  *   quality_sums    one a cell: grows by their qualities
  *   value_sums      one a cell: grows by their values, whatever the weighting
  *   weighted_sums   one a cell: grows by their values, each times its quality, whatever the weighting
- *   least           one a cell: the lesser of what it held, whatever that is, and the least of their values
- *   greatest        one a cell: the greater of what it held, whatever that is, and the greatest of their values
  * Refusals, in this order: 19; 17 where these rays and those taken are more than were announced; 1 to 5 for the numbers of the sweep; 6,
  * also for no rays; 7; 8; 31 where a count or a quality sum would pass 32 bits, or a value sum or a weighted sum 64, which is never given
  * while the latest sweep and untouched lists are handed on.
@@ -226,9 +214,7 @@ uint32_t uldrevin_sweep_take(struct uldrevin_sweep *sweep,
                              uint32_t *counts, size_t counts_length,
                              uint32_t *quality_sums, size_t quality_sums_length,
                              uint64_t *value_sums, size_t value_sums_length,
-                             uint64_t *weighted_sums, size_t weighted_sums_length,
-                             uint16_t *least, size_t least_length,
-                             uint16_t *greatest, size_t greatest_length);
+                             uint64_t *weighted_sums, size_t weighted_sums_length);
 
 /*
  * Closes a sweep that has taken all its rays, and publishes its cells in the weighting with which it was opened, which stands

@@ -2,11 +2,13 @@
 from itertools import product
 from typing import NamedTuple
 
-from gates_in_a_cell import CORNERS, KINDS, all_in_cell
-from good_scans import AZIMUTHS, PLACES, QUALITIES, VALUES, any_scan
-from second_program import scan as rules
+from good_scans import AZIMUTHS, PLACES, QUALITIES, VALUES, any_scan, at_corner
+from second_program import placement, scan as rules
+from second_program.placement import Hrap, Radolan
 from second_program.scan import Scan
 from sweep_calls import rays_of
+
+KINDS = (Radolan, Hrap)
 
 
 class Group(NamedTuple):
@@ -26,13 +28,24 @@ class Group(NamedTuple):
         return rules.sums_of(scan, rules.ledger(scan.grid, rules.positions(scan)))
 
 
-# Groups that lie in one cell.
+# Groups that lie in one cell. The radar is away from the lines of both grids, and all gates are within a few centimetres.
+
+SITES = {Radolan: (510_000, 100_000), Hrap: (350_000, -975_000)}
+SIDES = {Radolan: 100_000, Hrap: Hrap.side}
+CORNERS = {"first": (0, 0), "last": (2, 1)}  # column and row, of 3 columns and 2 rows
 
 
 def in_cell(kind, by_quality, cell, values, qualities, rays, gates):
     """A scan whose gates all lie in this cell, with one ray more before the group and one behind it."""
+    latitude, longitude = SITES[kind]
+    x, y = placement.position(latitude, longitude, kind.sphere, 0, 0)
+    side, (column, row) = SIDES[kind], CORNERS[cell]
+    # HRAP's lines are where they are.
+    middle = 0 if kind is Hrap else side // 2
+    grid = at_corner(kind, x - column * side - middle, y - row * side - middle, side, 3, 2)
+    numbers = (rays + 2, gates, 0, 1, latitude, longitude, grid, by_quality)
     around = [1] * gates
-    return all_in_cell(kind, by_quality, cell, rays + 2, gates, around + values + around, around + qualities + around)
+    return Scan(*numbers, [700_000 * ray for ray in range(rays + 2)], around + values + around, around + qualities + around)
 
 
 # Values and qualities of a group of so many rays and gates.

@@ -1,5 +1,4 @@
-"""The library from C, Rust and Python: the same functions, structs, constants and sentences for refusals, the same grids, least and
-greatest values, ledgers and marks.
+"""The library from C, Rust and Python: the same functions, structs and sentences for refusals, the same grids, ledgers and marks.
 
     python3 tests/compare_bindings.py
 
@@ -42,7 +41,7 @@ def rust_example(name):
 
 
 def first_grids():
-    """The commands that print a grid, its least and greatest values and a ledger with its marks, by language."""
+    """The commands that print a grid and a ledger with its marks, by language."""
     return {
         "C": ["target/first_grid"],
         "Rust": rust_example("first_grid"),
@@ -51,10 +50,7 @@ def first_grids():
 
 
 def turning_grids():
-    """The commands that feed the rays to a sweep and print a grid and its least and greatest values, by language.
-
-    tests/compare_python.py runs examples/turning.py.
-    """
+    """The commands that feed the rays to a sweep and print a grid, by language. tests/compare_python.py runs examples/turning.py."""
     return {"C": ["target/turning"], "Rust": rust_example("turning")}
 
 
@@ -62,41 +58,18 @@ def printed_sheet(record):
     return ended(["target/bin/sheet"], record).stdout.decode()
 
 
-def printed_ledger(record):
-    """The words of each gate's line: ray, gate, azimuth, range, value, quality, x, y, then column and row or outside, and the mark."""
-    return [line.split() for line in ended(["target/bin/ledger"], record).stdout.decode().splitlines()[1:]]
-
-
-def extreme_lines(record):
-    """Document 02's least and greatest of each cell with a count, from the ledger."""
-    cells = {}
-    for _, _, _, _, value, _, _, _, *cell, _ in printed_ledger(record):
-        if cell != ["outside"] and value != "65535":
-            column, row = map(int, cell)
-            cells.setdefault((row, column), []).append(0 if value == "65534" else int(value))
-    lines = [f"{column} {row} {min(values)} {max(values)}\n" for (row, column), values in sorted(cells.items())]
-    return "least and greatest\n" + "".join(lines)
-
-
-def entry_lines(record, columns):
-    """Cells and marks, from the ledger."""
+def expected_grid(record):
+    """What the proved programs print for a record: the sheet, then cells and marks from the ledger."""
+    sheet = printed_sheet(record)
+    if not sheet.startswith("grid"):
+        return sheet
+    columns = int(sheet.split()[1])
     entries = []
-    for ray, gate, *_, column, row, mark in printed_ledger(record):
+    for line in ended(["target/bin/ledger"], record).stdout.decode().splitlines()[1:]:
+        ray, gate, *_, column, row, mark = line.split()
         inside = row != "outside"
         entries.append(f"{ray} {gate} {int(row) * columns + int(column) if inside else 'outside'} {mark}\n")
-    return "ledger\n" + "".join(entries)
-
-
-def expected_turning(record):
-    """What the proved programs print for a record: the sheet, then least and greatest from the ledger."""
-    sheet = printed_sheet(record)
-    return sheet + extreme_lines(record) if sheet.startswith("grid") else sheet
-
-
-def expected_grid(record):
-    """The same, then cells and marks from the ledger."""
-    turning = expected_turning(record)
-    return turning + entry_lines(record, int(turning.split()[1])) if turning.startswith("grid") else turning
+    return sheet + "ledger\n" + "".join(entries)
 
 
 def grids_differ(command, expected_of):
@@ -114,7 +87,6 @@ def comparisons():
     yield from declarations.functions()
     yield "the functions have the same parameters in C, Rust and Python", declarations.parameters()
     yield "the structs have the same fields in C, Rust and Python", declarations.structs()
-    yield "the constants have document 01's and 02's numbers in C, Rust and Python", declarations.constants()
     yield "the sentences of the refusals are the same in C, Rust and Python", declarations.sentences()
     yield "a C program compiles without a warning and finds what documents 01 and 02 say", (
         built_for_c("tests/from_c.c", "from_c") or failed(["target/from_c"])
@@ -123,14 +95,12 @@ def comparisons():
     yield "the cases of document 01 by the plain program", failed([*CARGO, "test", "-p", "plain_program"])
     faults = built_for_c("examples/first_grid.c", "first_grid")
     for language, command in first_grids().items():
-        yield f"first grid, least and greatest, and ledger from {language} as the programs print them", (
-            faults or grids_differ(command, expected_grid)
-        )
+        yield f"first grid and ledger from {language} as the programs print them", faults or grids_differ(command, expected_grid)
         faults = []
     faults = built_for_c("examples/turning.c", "turning")
     for language, command in turning_grids().items():
-        yield f"the grid, least and greatest of rays fed one at a time from {language} as the programs print them", (
-            faults or grids_differ(command, expected_turning)
+        yield f"the grid of rays fed one at a time from {language} as the program sheet prints it", (
+            faults or grids_differ(command, printed_sheet)
         )
         faults = []
 

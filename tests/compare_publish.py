@@ -6,7 +6,6 @@ import compare_scan
 import library
 from compare_scan import described
 from good_scans import SEED, groups
-from lent_lists import MARGIN
 from lent_structs import WEIGHTINGS
 from limit_sums import BY_HAND, WANTED, cells_at_limits, kinds_of
 from publish_calls import cells_of, held_sums, publish_lines
@@ -42,14 +41,6 @@ def means_beyond(by_quality, measured, means):
             yield f"the mean of cell {cell} is {mean}, by quality {by_quality}, with contributing values {sorted(values)}"
 
 
-def means_beyond_extremes(measured, means, extremes):
-    """Means that are not between the least and the greatest value that the library's own tally has of the cell."""
-    for cell in measured:
-        mean, (least, greatest) = means[cell], (held[MARGIN + cell] for held in extremes)
-        if mean != NO_MEAN and not least <= mean <= greatest:
-            yield f"the mean of cell {cell} is {mean}, its least value {least} and its greatest {greatest}"
-
-
 def published_twice(compiled, scan):
     """Both sheets from one tally of the library: how many means differ between them, and where they are not document 01's."""
     lengths = rules.lent_lengths(scan)
@@ -62,7 +53,6 @@ def published_twice(compiled, scan):
         sheet = by_document_01(scan, by_quality, measured)
         lines += publish_lines(compiled, weighting, lists.sums, cells, sheet)
         lines += means_beyond(by_quality, measured, sheet.means)
-        lines += means_beyond_extremes(measured, sheet.means, lists.extremes)
         if rules.publish(by_quality, expected.sums, cells) != sheet:
             lines.append(f"the second program publishes otherwise, by quality {by_quality}")
         sheets.append(sheet)

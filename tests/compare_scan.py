@@ -17,7 +17,7 @@ from wrong_scans import HRAP_SCAN, RADOLAN_SCAN, apply, far_numbers, far_pairs, 
 SHOWN = 3  # places printed of one list
 
 # By array's letters.
-WRITTEN = Lent("I", "B", *SUMMED, "H", "H")
+WRITTEN = Lent("I", "B", *SUMMED)
 
 
 # The library's answers.
@@ -236,10 +236,9 @@ class Expected(NamedTuple):
     by_quality: Cells | None = None
 
 
-def in_second_cell(sums, extremes, plain, by_quality, quality):
-    """Of two gates in the second of two cells: its sums, its extremes, its mean plain and by quality, and its quality."""
-    least, greatest = extremes
-    lists = Lent([1, 1], [1, 1], *([0, number] for number in sums), [65_535, least], [0, greatest])
+def in_second_cell(sums, plain, by_quality, quality):
+    """Of two gates in the second of two cells: its sums, its mean plain and by quality, and its quality."""
+    lists = Lent([1, 1], [1, 1], *([0, number] for number in sums))
     return Expected(Tallied(0, lists), *(Cells([65_535, mean], [0, quality]) for mean in (plain, by_quality)))
 
 
@@ -249,16 +248,14 @@ def in_cell(cell, cells, mark=1):
     def only(number, other=0):
         return [number if place == cell else other for place in range(cells)]
 
-    lists = Lent([cell], [mark], only(1), only(50), only(5), only(250), only(5, 65_535), only(5))
     published = Cells(only(5, 65_535), only(50))
-    return Expected(Tallied(0, lists), published, published)
+    return Expected(Tallied(0, Lent([cell], [mark], only(1), only(50), only(5), only(250))), published, published)
 
 
 def outside(cells, mark=1):
-    nothing, none = [0] * cells, [65_535] * cells
-    lists = Lent([OUTSIDE], [mark], nothing, nothing, nothing, nothing, none, nothing)
-    published = Cells(none, nothing)
-    return Expected(Tallied(0, lists), published, published)
+    nothing = [0] * cells
+    published = Cells([65_535] * cells, nothing)
+    return Expected(Tallied(0, Lent([OUTSIDE], [mark], nothing, nothing, nothing, nothing)), published, published)
 
 
 # X less the corner, column and mark, for a side of 10,000,000. Y is far from any line.
@@ -273,11 +270,11 @@ PASSES = None  # the lists are left to the second program
 
 def cases():
     title = "plain 1 and 7: 4, by quality 90 and 10: 1, cell quality 50"
-    yield title, SHEET, in_second_cell((2, 100, 8, 160), (1, 7), 4, 1, 50)
+    yield title, SHEET, in_second_cell((2, 100, 8, 160), 4, 1, 50)
     title = "by quality, both 0: 65,535, count 2, quality 0"
-    yield title, SHEET._replace(qualities=[0, 0]), in_second_cell((2, 0, 8, 0), (1, 7), 4, 65_535, 0)
-    yield "no echo and 7, plain: 3", SHEET._replace(values=[65_534, 7]), in_second_cell((2, 100, 7, 70), (0, 7), 3, 0, 50)
-    yield "not measured and 7: 7", SHEET._replace(values=[65_535, 7]), in_second_cell((1, 10, 7, 70), (7, 7), 7, 7, 10)
+    yield title, SHEET._replace(qualities=[0, 0]), in_second_cell((2, 0, 8, 0), 4, 65_535, 0)
+    yield "no echo and 7, plain: 3", SHEET._replace(values=[65_534, 7]), in_second_cell((2, 100, 7, 70), 3, 0, 50)
+    yield "not measured and 7: 7", SHEET._replace(values=[65_535, 7]), in_second_cell((1, 10, 7, 70), 7, 7, 10)
 
     last = SHEET._replace(first=45_900_000)
     yield "last centre 46,000,000 passes", last, PASSES

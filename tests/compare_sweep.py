@@ -17,7 +17,7 @@ from second_program.placement import Hrap, Radolan
 from second_program.record import head_of
 from second_program.scan import Cells
 from second_program.sweep import WIDEST
-from sweep_calls import CELLS, EXTREMES, HELD, SUMS, Desk, Rays, beside_meant, exact_lengths, rays_of
+from sweep_calls import CELLS, HELD, SUMS, Desk, Rays, beside_meant, exact_lengths, rays_of
 from whole_sweeps import whole_sweep
 from wrong_scans import apply
 from wrong_sweeps import ORDER, STAGES
@@ -150,21 +150,21 @@ def opening(compiled):
 # Altered sums.
 
 
-def holding(compiled, scan, state, lists):
-    """A desk whose lists hold these numbers, by name."""
+def holding(compiled, scan, state, sums):
+    """A desk whose sums hold these numbers."""
     desk = Desk(compiled, exact_lengths(scan), state)
-    for name, numbers in lists.items():
+    for name, numbers in zip(SUMS, sums):
         for place, number in enumerate(numbers):
             desk.alter(name, place, number)
     return desk
 
 
 def any_sums(draw, shares):
-    """Sums of any size in which the shares find room, by name."""
-    return {
-        name: [draw.choice((0, widest - share, draw.randint(0, widest - share))) for share in of_list]
-        for name, of_list, widest in zip(SUMS, shares, WIDEST)
-    }
+    """Sums of any size in which the shares find room."""
+    return [
+        [draw.choice((0, widest - share, draw.randint(0, widest - share))) for share in of_list]
+        for of_list, widest in zip(shares, WIDEST)
+    ]
 
 
 def group_lines(compiled, draw, group):
@@ -186,8 +186,7 @@ def group_lines(compiled, draw, group):
                 if step > 0:
                     note(f"{name}[{cell}] too large by {step}", *desk.take(rays), 31)
                 else:
-                    sums = dict(zip(SUMS, map(desk.numbers, SUMS)))
-                    fresh = holding(compiled, group.scan, state_of(group.scan, group.start), sums)
+                    fresh = holding(compiled, group.scan, state_of(group.scan, group.start), map(desk.numbers, SUMS))
                     note(f"{name}[{cell}] with room for {-step} more", *fresh.take(rays), 0)
             desk.alter(name, cell, before)
     note("with room in every cell", *desk.take(rays), 0)
@@ -215,7 +214,7 @@ def closing_lines(compiled, scan, cells):
     """A closing over cells of these counts and sums."""
     grid = scan.grid._replace(columns=len(cells), rows=1)
     scan = scan._replace(grid=grid)
-    desk = holding(compiled, scan, state_of(scan, scan.rays), dict(zip(SUMS, zip(*cells))))
+    desk = holding(compiled, scan, state_of(scan, scan.rays), zip(*cells))
     return desk, [f"{described(scan)}: {line}" for line in beside_meant(*desk.close(), 0)]
 
 
@@ -254,16 +253,12 @@ def both_sheets_by_hand(compiled, desk):
 
 def any_altered(draw, desk, kept):
     """Alters something that the caller holds."""
-    kind = draw.randrange(5)
+    kind = draw.randrange(4)
     if kind == 0:
         desk.state[:] = draw.choice(kept)
     elif kind == 1:
         place = draw.choice((0, 1, 2, 3, 4, 5, 7, 8, 12, 13, 13, 14))
         desk.alter_state(place, draw.choice((0, 1, 2, 3, within_margins(desk.state)[place] + draw.choice((-1, 1)))))
-    elif kind == 2:
-        name = draw.choice(EXTREMES)
-        number = draw.choice((0, 65_533, 65_534, 65_535, draw.randint(0, 65_535)))
-        desk.alter(name, draw.randrange(len(desk.numbers(name))), number)
     else:
         name = draw.choice(SUMS)
         widest = getattr(WIDEST, name)
@@ -320,8 +315,6 @@ def sheet_steps(desk):
     yield "quality 101", desk.take(sheet_rays(1)._replace(qualities=[90, 101])), 8, 1, 0
     yield "a ledger of the group alone", desk.take(sheet_rays(1), {"ledger": -4}), 6, 1, 0
     yield "marks of the group alone", desk.take(sheet_rays(1), {"marks": -4}), 6, 1, 0
-    yield "a short list of least values", desk.take(sheet_rays(1), {"least": -1}), 6, 1, 0
-    yield "a long list of greatest values", desk.take(sheet_rays(1), {"greatest": 1}), 6, 1, 0
     yield "closed early", desk.close(), 18, 1, 0
     yield "two rays", desk.take(sheet_rays(2)), 0, 3, 0
     yield "one ray, too many", desk.take(sheet_rays(1)), 17, 3, 0
@@ -332,7 +325,7 @@ def sheet_steps(desk):
 
 
 def by_hand(compiled):
-    desk = Desk(compiled, (6, 6, *[2] * 8))
+    desk = Desk(compiled, (6, 6, 2, 2, 2, 2, 2, 2))
     lent = {name: desk.numbers(name) for name in HELD}
     lines, steps = [], 0
     for words, (number, found), meant, taken, closed in sheet_steps(desk):
@@ -343,8 +336,6 @@ def by_hand(compiled):
             [0, 100 * taken],
             [0, 8 * taken],
             [0, 160 * taken],
-            [65_535, 1 if taken else 65_535],
-            [0, 7 if taken else 0],
             [65_535, 1] if closed else lent["means"],
             [0, 50] if closed else lent["cell_qualities"],
         )

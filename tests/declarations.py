@@ -1,5 +1,4 @@
-"""What the header, the crate for Rust and the module for Python declare: functions, their parameters, structs, constants, sentences of
-refusals."""
+"""What the header, the crate for Rust and the module for Python declare: functions, their parameters, structs, sentences of refusals."""
 import re
 import subprocess
 import sys
@@ -155,42 +154,6 @@ def structs():
         for name in sorted({*expected, *found}):
             if found.get(name) != expected.get(name):
                 differences.append(f"{language}: {name} has {found.get(name)}, and {expected.get(name)} in the header")
-    return differences
-
-
-# Constants.
-
-CONSTANTS = {
-    "OUTSIDE": ("u32", 4_294_967_295),
-    "NO_ECHO": ("u16", 65_534),
-    "NOT_MEASURED": ("u16", 65_535),
-    "NO_MEAN": ("u16", 65_535),
-    "NO_LEAST": ("u16", 65_535),
-}  # by documents 01 and 02
-
-
-def header_constants():
-    for name, bits, number in re.findall(r"^#define ULDREVIN_(\w+) UINT(\d+)_C\((\d+)\)$", HEADER.read_text(), re.MULTILINE):
-        yield name, (f"u{bits}", int(number))
-
-
-def rust_constants():
-    for name, held, number in re.findall(r"^pub const (\w+): (\w+) = ([\d_]+);$", (RUST / "lib.rs").read_text(), re.MULTILINE):
-        yield name, (held, int(number))
-
-
-def python_constants():
-    """A whole number of Python has no width."""
-    for name, (held, _) in CONSTANTS.items():
-        yield name, (held, getattr(uldrevin, name, None))
-
-
-def constants():
-    differences = []
-    for language, found in (("C", header_constants()), ("Rust", rust_constants()), ("Python", python_constants())):
-        found = dict(found)
-        if found != CONSTANTS:
-            differences.append(f"{language}: {found}, expected {CONSTANTS}")
     return differences
 
 

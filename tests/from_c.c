@@ -139,19 +139,17 @@ static const uint8_t qualities[2] = {90, 10};
 struct lists {
     uint64_t value_sums[2], weighted_sums[2];
     uint32_t ledger[2], counts[2], quality_sums[2];
-    uint16_t least[2], greatest[2];
     uint8_t marks[2], behind[6];
 };
 
 /* The lengths of the lists that a tally is lent, in the order of the parameters. */
-static const size_t tally_lengths[11] = {1, 2, 2, 2, 2, 2, 2, 2, 2, 2, 2};
+static const size_t tally_lengths[9] = {1, 2, 2, 2, 2, 2, 2, 2, 2};
 
 static uint32_t tally_with(const struct uldrevin_scan *scan, const uint32_t *azimuths_given, const uint8_t *qualities_given,
                            const size_t *n, struct lists *l)
 {
     return uldrevin_tally(scan, azimuths_given, n[0], values, n[1], qualities_given, n[2], l->ledger, n[3], l->marks, n[4],
-                          l->counts, n[5], l->quality_sums, n[6], l->value_sums, n[7], l->weighted_sums, n[8],
-                          l->least, n[9], l->greatest, n[10]);
+                          l->counts, n[5], l->quality_sums, n[6], l->value_sums, n[7], l->weighted_sums, n[8]);
 }
 
 static uint32_t tally(const struct uldrevin_scan *scan, struct lists *l)
@@ -174,15 +172,13 @@ static int same_lists(const struct lists *one, const struct lists *other)
 
 static int empty(const struct lists *l, int cell)
 {
-    return l->counts[cell] == 0 && l->quality_sums[cell] == 0 && l->value_sums[cell] == 0 && l->weighted_sums[cell] == 0
-           && l->least[cell] == ULDREVIN_NO_LEAST && l->greatest[cell] == 0;
+    return l->counts[cell] == 0 && l->quality_sums[cell] == 0 && l->value_sums[cell] == 0 && l->weighted_sums[cell] == 0;
 }
 
 /* Both gates, whose values are 1 and 7 and whose qualities 90 and 10, lie in the cell. */
 static int both_gates(const struct lists *l, int cell)
 {
-    return l->counts[cell] == 2 && l->quality_sums[cell] == 100 && l->value_sums[cell] == 8 && l->weighted_sums[cell] == 160
-           && l->least[cell] == 1 && l->greatest[cell] == 7;
+    return l->counts[cell] == 2 && l->quality_sums[cell] == 100 && l->value_sums[cell] == 8 && l->weighted_sums[cell] == 160;
 }
 
 static void scans(void)
@@ -192,12 +188,12 @@ static void scans(void)
     check("HRAP scan tallied", tally(&hrap, &l) == 0 && memcmp(l.behind, held.behind, sizeof l.behind) == 0);
     check("HRAP ledger", l.ledger[0] == 1 && l.ledger[1] == 1);
     check("HRAP marks", l.marks[0] == 1 && l.marks[1] == 1);
-    check("HRAP sums, least and greatest", empty(&l, 0) && both_gates(&l, 1));
+    check("HRAP sums", empty(&l, 0) && both_gates(&l, 1));
     l = held;
     check("RADOLAN scan tallied", tally(&radolan, &l) == 0 && memcmp(l.behind, held.behind, sizeof l.behind) == 0);
     check("RADOLAN ledger", l.ledger[0] == 0 && l.ledger[1] == 0);
     check("RADOLAN marks", l.marks[0] == 1 && l.marks[1] == 1);
-    check("RADOLAN sums, least and greatest", both_gates(&l, 0) && empty(&l, 1));
+    check("RADOLAN sums", both_gates(&l, 0) && empty(&l, 1));
     l = held;
     static const uint8_t bad_quality[2] = {90, 101};
     static const uint32_t bad_azimuth[1] = {3600000};
@@ -319,7 +315,7 @@ struct swept {
     struct uldrevin_sweep sweep;
     uint64_t value_sums[2], weighted_sums[2];
     uint32_t ledger[4], counts[2], quality_sums[2];
-    uint16_t least[2], greatest[2], means[2];
+    uint16_t means[2];
     uint8_t marks[4], cell_qualities[2], behind[6];
 };
 
@@ -336,12 +332,11 @@ static int same_swept(const struct swept *one, const struct swept *other)
 }
 
 /* The lengths of the lists that are lent, in the order of the parameters. */
-static const size_t open_lengths[6] = {2, 2, 2, 2, 2, 2}, close_lengths[6] = {2, 2, 2, 2, 2, 2};
+static const size_t open_lengths[4] = {2, 2, 2, 2}, close_lengths[6] = {2, 2, 2, 2, 2, 2};
 
 static uint32_t open_with(const struct uldrevin_scan *scan, struct swept *s, const size_t *n)
 {
-    return uldrevin_sweep_open(scan, s->counts, n[0], s->quality_sums, n[1], s->value_sums, n[2], s->weighted_sums, n[3],
-                               s->least, n[4], s->greatest, n[5], &s->sweep);
+    return uldrevin_sweep_open(scan, s->counts, n[0], s->quality_sums, n[1], s->value_sums, n[2], s->weighted_sums, n[3], &s->sweep);
 }
 
 static uint32_t open_sweep(const struct uldrevin_scan *scan, struct swept *s)
@@ -353,13 +348,13 @@ static uint32_t take_with(struct swept *s, const struct rays *r, size_t first, c
 {
     return uldrevin_sweep_take(&s->sweep, r->azimuths + first, n[0], r->values + 2 * first, n[1], r->qualities + 2 * first, n[2],
                                s->ledger, n[3], s->marks, n[4], s->counts, n[5], s->quality_sums, n[6], s->value_sums, n[7],
-                               s->weighted_sums, n[8], s->least, n[9], s->greatest, n[10]);
+                               s->weighted_sums, n[8]);
 }
 
 /* Takes some of the rays, the first of them by its place among both. */
 static uint32_t take(struct swept *s, const struct rays *r, size_t first, size_t rays)
 {
-    const size_t n[11] = {rays, 2 * rays, 2 * rays, 4, 4, 2, 2, 2, 2, 2, 2};
+    const size_t n[9] = {rays, 2 * rays, 2 * rays, 4, 4, 2, 2, 2, 2};
     return take_with(s, r, first, n);
 }
 
@@ -405,7 +400,6 @@ static void both_sheets(const struct swept *closed, int cell)
     struct swept s = *closed;
     check("sums of both rays", s.counts[cell] == 4 && s.quality_sums[cell] == 200 && s.value_sums[cell] == 11
           && s.weighted_sums[cell] == 340);
-    check("least and greatest of both rays", s.least[cell] == 0 && s.greatest[cell] == 7);
     check("the sheet that was closed", publish_swept(&s, s.sweep.scan.weighting) == 0 && same_swept(&s, closed));
     check("plain sheet", publish_swept(&s, 0) == 0 && s.means[cell] == 2 && s.cell_qualities[cell] == 50);
     check("quality sheet", publish_swept(&s, 1) == 0 && s.means[cell] == 1 && s.cell_qualities[cell] == 50);
@@ -426,14 +420,10 @@ static void sweeps(void)
         memset(expected.quality_sums, 0, sizeof expected.quality_sums);
         memset(expected.value_sums, 0, sizeof expected.value_sums);
         memset(expected.weighted_sums, 0, sizeof expected.weighted_sums);
-        for (size_t cell = 0; cell < LENGTH(expected.least); cell++)
-            expected.least[cell] = ULDREVIN_NO_LEAST;
-        memset(expected.greatest, 0, sizeof expected.greatest);
         check("sweep as opened", same_swept(&s, &expected));
 
         check("whole scan tallied", uldrevin_tally(&grids[k], good.azimuths, 2, good.values, 4, good.qualities, 4, expected.ledger, 4,
-              expected.marks, 4, expected.counts, 2, expected.quality_sums, 2, expected.value_sums, 2, expected.weighted_sums, 2,
-              expected.least, 2, expected.greatest, 2) == 0);
+              expected.marks, 4, expected.counts, 2, expected.quality_sums, 2, expected.value_sums, 2, expected.weighted_sums, 2) == 0);
         check("whole scan published", publish_swept(&expected, grids[k].weighting) == 0);
         check("its marks", memcmp(expected.marks, marks, sizeof marks) == 0);
         check("first ray taken", take(&s, &good, 0, 1) == 0 && s.sweep.taken == 1);
@@ -505,14 +495,14 @@ static void short_sweep_lists(void)
     struct rays bad = good;
     bad.azimuths[0] = 3600000;
     struct swept s = held;
-    for (size_t k = 0; k < 6; k++) {
-        size_t n[6] = {2, 2, 2, 2, 2, 2};
+    for (size_t k = 0; k < 4; k++) {
+        size_t n[4] = {2, 2, 2, 2};
         n[k]--;
         check(with("open:", "short list", (int64_t)k), open_with(&scan, &s, n) == 6 && same_swept(&s, &held));
     }
     s = none;
-    for (size_t k = 0; k < 11; k++) {
-        size_t n[11] = {2, 4, 4, 4, 4, 2, 2, 2, 2, 2, 2};
+    for (size_t k = 0; k < 9; k++) {
+        size_t n[9] = {2, 4, 4, 4, 4, 2, 2, 2, 2};
         n[k]--;
         check(with("take:", "short list", (int64_t)k), take_with(&s, &bad, 0, n) == 6 && same_swept(&s, &none));
     }
@@ -581,31 +571,6 @@ static void altered_sums(void)
             expected.sweep.closed = 1;
             check(with("closed:", "row of the table", (int64_t)row), close_sweep(&s) == 0 && same_swept(&s, &expected));
         }
-    }
-}
-
-/* A least and a greatest value that a caller has put into both cells, and those of the cell of the first ray, 1 and 7, once it is taken. */
-static const struct {
-    uint16_t least, greatest, least_then, greatest_then;
-} altered[] = {
-    {ULDREVIN_NO_LEAST, 0, 1, 7}, {1, 7, 1, 7}, {2, 6, 1, 7}, {0, 8, 0, 8}, {0, 6, 0, 7}, {2, 8, 1, 8}, {9, 8, 1, 8},
-    {0, UINT16_MAX, 0, UINT16_MAX},
-};
-
-static void altered_extremes(void)
-{
-    for (size_t row = 0; row < LENGTH(altered); row++) {
-        struct swept s = sweep_with(&hrap, 0), full;
-        for (size_t cell = 0; cell < 2; cell++) {
-            s.least[cell] = altered[row].least;
-            s.greatest[cell] = altered[row].greatest;
-        }
-        full = s;
-        full.counts[1] = UINT32_MAX;
-        take_refused(with("count over 32 bits,", "row of altered extremes", (int64_t)row), &full, &good, 0, 1, 31);
-        check(with("taken:", "row of altered extremes", (int64_t)row),
-              take(&s, &good, 0, 1) == 0 && s.least[1] == altered[row].least_then && s.greatest[1] == altered[row].greatest_then
-              && s.least[0] == altered[row].least && s.greatest[0] == altered[row].greatest);
     }
 }
 
@@ -956,7 +921,6 @@ int main(void)
     sweeps_refused();
     short_sweep_lists();
     altered_sums();
-    altered_extremes();
     altered_states();
     records_written();
     records_read();

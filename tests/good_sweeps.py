@@ -1,10 +1,10 @@
 """Sweeps of good scans: the rays divided into groups, and operations between them that have to be refused."""
-from itertools import combinations, cycle, product
+from itertools import cycle, product
 from typing import Any, NamedTuple
 
 from good_scans import AZIMUTHS, PLACES, QUALITIES, VALUES, any_scan, at_ends, large_grids, large_scans, long_rows, smallest
 from second_program.placement import Hrap, Radolan
-from sweep_calls import CELLS, SUMS, TALLIED, Rays, rays_of
+from sweep_calls import CELLS, ENTRIES_AND_SUMS, SUMS, Rays, rays_of
 
 MOST_CELLS = 12_000  # of the scans that are divided
 KINDS = (Radolan, Hrap)
@@ -25,10 +25,6 @@ def any_division(draw, rays):
     """Many small groups or a few large ones."""
     ends = draw.sample(range(1, rays), draw.choice((0, 1, 2, rays // 3, rays // 2, rays - 1)) % rays)
     return [*sorted(ends), rays]
-
-
-def every_division(rays):
-    return [[*ends, rays] for size in range(rays) for ends in combinations(range(1, rays), size)]
 
 
 def few_cells(scans):
@@ -110,7 +106,7 @@ def wrong_operations(draw, scan, start, end):
     choice = (
         Wrong(number, "take", (bad,)),
         Wrong(6, "take", (wrong_length(draw, rays),)),
-        Wrong(6, "take", (rays,), {draw.choice(TALLIED): draw.choice((-1, 1, 5))}),
+        Wrong(6, "take", (rays,), {draw.choice(ENTRIES_AND_SUMS): draw.choice((-1, 1, 5))}),
         Wrong(6, "take", (Rays([], [], []),)),
         Wrong(17, "take", (draw.choice((too_many, too_many._replace(values=[], qualities=[]))),)),
         Wrong(18, "close"),

@@ -36,7 +36,6 @@ GATE = [POINTER(c_uint32), POINTER(c_int64), POINTER(c_int64), POINTER(c_uint8)]
 GIVEN = [*one_list(c_uint32), *one_list(c_uint16), *one_list(c_uint8)]
 ENTRIES = [*one_list(c_uint32), *one_list(c_uint8)]  # ledger and marks
 SUMS = [*one_list(c_uint32), *one_list(c_uint32), *one_list(c_uint64), *one_list(c_uint64)]
-EXTREMES = [*one_list(c_uint16), *one_list(c_uint16)]  # least and greatest
 CELLS = [*one_list(c_uint16), *one_list(c_uint8)]
 BYTES = one_list(c_uint8)
 LENGTH = POINTER(c_uint64)
@@ -44,10 +43,10 @@ LENGTH = POINTER(c_uint64)
 # What each function but the sine and the cosine is called with. It answers with a refusal number.
 ARGUMENTS = {
     "uldrevin_place": [SITE, GRID, c_int64, c_int64, *GATE],
-    "uldrevin_tally": [SCAN, *GIVEN, *ENTRIES, *SUMS, *EXTREMES],
+    "uldrevin_tally": [SCAN, *GIVEN, *ENTRIES, *SUMS],
     "uldrevin_publish": [c_int64, *SUMS, *CELLS],
-    "uldrevin_sweep_open": [SCAN, *SUMS, *EXTREMES, SWEEP],
-    "uldrevin_sweep_take": [SWEEP, *GIVEN, *ENTRIES, *SUMS, *EXTREMES],
+    "uldrevin_sweep_open": [SCAN, *SUMS, SWEEP],
+    "uldrevin_sweep_take": [SWEEP, *GIVEN, *ENTRIES, *SUMS],
     "uldrevin_sweep_close": [SWEEP, *SUMS, *CELLS],
     "uldrevin_record_head": [*BYTES, SCAN],
     "uldrevin_record_field": [*BYTES, c_uint32, LENGTH, LENGTH],

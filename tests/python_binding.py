@@ -20,8 +20,7 @@ BINDING = ROOT / "bindings" / "python"
 sys.path.insert(0, str(BINDING))
 
 import uldrevin  # noqa: E402
-from uldrevin import BY_QUALITY, NO_ECHO, NO_LEAST, NO_MEAN, NOT_MEASURED, OUTSIDE, PLAIN  # noqa: E402
-from uldrevin import Hrap, Placement, Radolan, Site, flat  # noqa: E402
+from uldrevin import BY_QUALITY, NO_ECHO, NO_MEAN, NOT_MEASURED, OUTSIDE, PLAIN, Hrap, Placement, Radolan, Site, flat  # noqa: E402
 
 try:
     import numpy
@@ -33,8 +32,6 @@ RECORDS = [(name, (ROOT / "examples" / name).read_bytes()) for name in ("hrap.sc
 # Document 01's example for the sheet program; both gates lie in the second cell, on its west edge, and are marked.
 EXAMPLE = uldrevin.Scan(Site(600_000, -1_050_000), Hrap(400, 932, 2, 1), BY_QUALITY, 0, 100_000, [0], [1, 7], [90, 10])
 RASTER = Radolan(-52_346_220, -465_864_470, 100_000, 900, 900)
-
-TALLIED = ("ledger", "marks", *uldrevin.Sums._fields, *uldrevin.Extremes._fields)
 
 
 class Checks:
@@ -135,7 +132,7 @@ def tally_of(scan):
 
 
 def plain_tally(tally):
-    return plain_lists([tally.ledger, tally.marks, *tally.sums, *tally.extremes])
+    return plain_lists([tally.ledger, tally.marks, *tally.sums])
 
 
 def sums_by_ledger(scan, ledger):
@@ -150,19 +147,10 @@ def sums_by_ledger(scan, ledger):
     return sums
 
 
-def extremes_by_ledger(scan, ledger):
-    """Least and greatest values."""
-    cells = [[] for _ in range(scan.grid.columns * scan.grid.rows)]
-    for cell, value in zip(ledger, flat(scan.values)):
-        if cell != OUTSIDE and value != NOT_MEASURED:
-            cells[cell].append(0 if value == NO_ECHO else value)
-    return [[min(values, default=NO_LEAST) for values in cells], [max(values, default=0) for values in cells]]
-
-
 def expected_tally(scan, placements):
     ledger = [OUTSIDE if placement.cell is None else placement.cell for placement in placements]
     marks = [int(marked(scan.grid, placement)) for placement in placements]
-    return [ledger, marks, *sums_by_ledger(scan, ledger), *extremes_by_ledger(scan, ledger)]
+    return [ledger, marks, *sums_by_ledger(scan, ledger)]
 
 
 def expected_mean(dividend, divisor):
@@ -184,51 +172,21 @@ def scans(checks):
         for placement in placements:
             checks.equal(f"the mark of {placement} of {name}", placement.mark, marked(scan.grid, placement))
         tally, expected = tally_of(scan), expected_tally(scan, placements)
-        sums, extremes = expected[2:6], expected[6:]
-        for part, got, wanted in zip(TALLIED, plain_tally(tally), expected):
+        for part, got, wanted in zip(("ledger", "marks", *uldrevin.Sums._fields), plain_tally(tally), expected):
             checks.equal(f"{part} of {name}", got, wanted)
         for weighting in (PLAIN, BY_QUALITY):
-            cells = expected_cells(weighting, *sums)
+            cells = expected_cells(weighting, *expected[2:])
             checks.equal(f"cells of {name}, weighting {weighting}", plain_lists(uldrevin.publish(weighting, *tally.sums)), cells)
             remapped = uldrevin.remap(*scan._replace(weighting=weighting))
             for part, got, wanted in zip(uldrevin.Remapped._fields, plain_lists(remapped), [*expected, *cells]):
                 checks.equal(f"{part} of {name}, remapped with weighting {weighting}", got, wanted)
-            checks.equal(f"the sums of {name}, remapped with weighting {weighting}", plain_lists(remapped.sums), sums)
-            checks.equal(f"the extremes of {name}, remapped with weighting {weighting}", plain_lists(remapped.extremes), extremes)
-        checks.equal(f"the sums of {name} after publishing", plain_lists(tally.sums), sums)
-        checks.equal(f"the extremes of {name} after publishing", plain_lists(tally.extremes), extremes)
+            checks.equal(f"the sums of {name}, remapped with weighting {weighting}", plain_lists(remapped.sums), expected[2:])
+        checks.equal(f"the sums of {name} after publishing", plain_lists(tally.sums), expected[2:])
     crossing = uldrevin.read_record(RECORDS[2][1])
     ledger, marks, *_ = plain_lists(uldrevin.remap(*crossing))
     met = {(cell == OUTSIDE, mark) for cell, mark in zip(ledger, marks)}
     not_measured = {mark for value, mark in zip(flat(crossing.values), marks) if value == NOT_MEASURED}
     checks.equal("gates inside and outside, marked and not, and so not measured", (len(met), len(not_measured)), (4, 2))
-
-
-def least_and_greatest(checks):
-    """Least and greatest of the second cell, of document 01's ray with other values and qualities. The first cell is empty."""
-    expected = [
-        ([1, 7], (1, 7)),
-        ([7, 1], (1, 7)),
-        ([7, 7], (7, 7)),
-        ([NO_ECHO, 7], (0, 7)),
-        ([0, NO_ECHO], (0, 0)),
-        ([NO_ECHO, NO_ECHO], (0, 0)),
-        ([NOT_MEASURED, 7], (7, 7)),
-        ([7, NOT_MEASURED], (7, 7)),
-        ([NOT_MEASURED, NO_ECHO], (0, 0)),
-        ([65_533, 65_532], (65_532, 65_533)),
-        ([NOT_MEASURED, 65_533], (65_533, 65_533)),
-        ([NOT_MEASURED, NOT_MEASURED], (NO_LEAST, 0)),
-    ]
-    for values, (least, greatest) in expected:
-        for qualities in ([90, 10], [0, 10], [10, 0], [0, 0]):
-            scan = EXAMPLE._replace(values=values, qualities=qualities)
-            what = f"values {values}, qualities {qualities}"
-            tally, sweep = tally_of(scan), opened(scan, 1, 2)
-            checks.equal(f"least with {what}", flat(tally.extremes.least), [NO_LEAST, least])
-            checks.equal(f"greatest with {what}", flat(tally.extremes.greatest), [0, greatest])
-            sweep.take(*scan[5:])
-            checks.equal(f"those of a sweep with {what}", plain_lists(sweep.extremes), plain_lists(tally.extremes))
 
 
 def rows_of(numbers, width):
@@ -255,7 +213,7 @@ def forms_of_lists(checks):
     for name, lists in forms.items():
         asked = uldrevin.Scan(*scan[:5], *lists)
         checks.equal(f"a scan from {name}", plain_lists(uldrevin.remap(*asked)), expected)
-        checks.equal(f"a tally from {name}", plain_tally(tally_of(asked)), expected[:8])
+        checks.equal(f"a tally from {name}", plain_tally(tally_of(asked)), expected[:6])
         checks.equal(f"a record from {name}", uldrevin.write_record(*asked), data)
     small = EXAMPLE._replace(azimuths=iter([0]), values=bytes([1, 7]), qualities=range(90, 9, -80))
     checks.equal("a scan from an iterator, bytes and a range", flat(uldrevin.remap(*small).weighted_sums), [0, 1 * 90 + 7 * 10])
@@ -282,17 +240,15 @@ def kinds_of_lists(checks):
     """What comes back is typed, and with numpy shaped."""
     scan = uldrevin.read_record(RECORDS[0][1])
     tally = tally_of(scan)
-    tallied, cells = [tally.ledger, tally.marks, *tally.sums, *tally.extremes], uldrevin.publish(PLAIN, *tally.sums)
-    lists = [*scan[5:], *uldrevin.remap(*scan), *tallied, *cells]
-    letters = "IHB" + "IBIIQQHHHB" * 2
-    kinds = (uldrevin.Tally, uldrevin.Sums, uldrevin.Extremes)
-    checks.equal("the kinds of a tally, its sums and its extremes", (type(tally), type(tally.sums), type(tally.extremes)), kinds)
+    lists = [*scan[5:], *uldrevin.remap(*scan), tally.ledger, tally.marks, *tally.sums, *uldrevin.publish(PLAIN, *tally.sums)]
+    letters = "IHB" + "IBIIQQHB" * 2
+    checks.equal("the kinds of a tally and of its sums", (type(tally), type(tally.sums)), (uldrevin.Tally, uldrevin.Sums))
     if numpy is None:
         checks.equal("the types of arrays", [numbers.typecode for numbers in lists], list(letters))
         return
     checks.equal("the dtypes", [numbers.dtype for numbers in lists], [numpy.dtype(letter) for letter in letters])
     by_gate, by_cell = (12, 20), (5, 6)
-    shapes = [(12,), *[by_gate] * 4, *[by_cell] * 8, *[by_gate] * 2, *[by_cell] * 8]
+    shapes = [(12,), *[by_gate] * 4, *[by_cell] * 6, *[by_gate] * 2, *[by_cell] * 6]
     checks.equal("the shapes", [numbers.shape for numbers in lists], shapes)
 
 
@@ -525,9 +481,9 @@ def held_by(sweep):
 
 def part_way(scan, head, taken):
     """What a sweep holds once it has taken so many rays of a scan, by the whole scan of these rays."""
-    ledger, marks, *tallied, means, qualities = plain_lists(uldrevin.remap(*scan[:5], *some_rays(scan, head, 0, taken)))
+    ledger, marks, *sums, means, qualities = plain_lists(uldrevin.remap(*scan[:5], *some_rays(scan, head, 0, taken)))
     left = head.gates * (head.rays - taken)
-    return [taken, False, ledger + [OUTSIDE] * left, marks + [0] * left, *tallied, [NO_MEAN] * len(means), [0] * len(qualities)]
+    return [taken, False, ledger + [OUTSIDE] * left, marks + [0] * left, *sums, [NO_MEAN] * len(means), [0] * len(qualities)]
 
 
 def sweeps(checks):
@@ -590,9 +546,9 @@ def swept_lists(checks):
             checks.equal(f"the numbers of a sweep's {name}", own.typecode, expected.typecode)
         else:
             checks.equal(f"the dtype and shape of a sweep's {name}", (own.dtype, own.shape), (expected.dtype, expected.shape))
-    for name, own in {**sweep.sums._asdict(), **sweep.extremes._asdict()}.items():
-        checks.note(own is getattr(sweep, name), f"the {name} among a sweep's sums or extremes are another list than its own")
-    for name in (*whole._fields, "sums", "extremes", "head", "taken", "closed"):
+    for name, own in sweep.sums._asdict().items():
+        checks.note(own is getattr(sweep, name), f"the {name} among a sweep's sums are another list than its own")
+    for name in (*whole._fields, "sums", "head", "taken", "closed"):
         checks.raised(AttributeError, "", f"a sweep's {name}, set", lambda: setattr(sweep, name, getattr(sweep, name)))
 
 
@@ -604,8 +560,7 @@ def fresh_lists(checks):
     swept, held = sweep.close(), plain_lists(first)
     checks.equal("the marks of two scans", [flat(uldrevin.remap(*scan).marks) for scan in (EXAMPLE, other)], [[1, 1], [0, 0]])
     again = opened(other, 1, 2)
-    expected = [0, False, [OUTSIDE] * 2, *[[0, 0]] * 5, [NO_LEAST] * 2, [0, 0], [NO_MEAN] * 2, [0, 0]]
-    checks.equal("a second sweep", held_by(again), expected)
+    checks.equal("a second sweep", held_by(again), [0, False, [OUTSIDE] * 2, *[[0, 0]] * 5, [NO_MEAN] * 2, [0, 0]])
     again.take(*other[5:])
     checks.equal("the lists of the first scan", plain_lists(first), held)
     checks.equal("the lists of the first sweep", plain_lists(swept), held)
@@ -655,7 +610,7 @@ def held_rays(checks):
     """During a call the given arrays are held, and so are the sweep's own, and another thread's ray waits."""
     library, sweep = uldrevin._library, opened(EXAMPLE, 2, 2)
     lists = [array(letter, numbers) for letter, numbers in zip("IHB", EXAMPLE[5:])]
-    own = [] if numpy is not None else [sweep.ledger, sweep.marks, *sweep.sums, *sweep.extremes]
+    own = [] if numpy is not None else [sweep.ledger, sweep.marks, *sweep.sums]
     uldrevin._library = meddled = Meddled(library, [*lists, *own])
     try:
         sweep.take(*lists)
@@ -734,35 +689,23 @@ def sweep_refusals(checks):
 
 
 def lengthened_lists(checks):
-    """Without numpy a caller can lengthen a list of the sweep, and it is refused; closing takes least and greatest of any length."""
-    for name in TALLIED:
+    """Without numpy a caller can lengthen a list of the sweep, and it is refused."""
+    for name in ("ledger", "marks", *uldrevin.Sums._fields):
         sweep = opened(EXAMPLE, 1, 2)
         getattr(sweep, name).append(0)
         sweep_refused(checks, 6, f"a sweep with a longer list of {name}", sweep, lambda: sweep.take(*EXAMPLE[5:]))
-    for name in uldrevin.Sums._fields:
-        sweep = opened(EXAMPLE, 1, 2)
-        sweep.take(*EXAMPLE[5:])
-        getattr(sweep, name).append(0)
-        sweep_refused(checks, 6, f"a sweep closed with a longer list of {name}", sweep, sweep.close)
-    for name in uldrevin.Extremes._fields:
-        sweep = opened(EXAMPLE, 1, 2)
-        sweep.take(*EXAMPLE[5:])
-        getattr(sweep, name).append(5)
-        closed = sweep.close()
-        checks.equal(f"means of a sweep with a longer list of {name}", flat(closed.means), [NO_MEAN, 1])
-        checks.equal(f"the longer list of {name} after closing", flat(getattr(closed, name))[-1], 5)
 
 
-def alter(lists, numbers):
-    """Writes into each list the number of the second cell, where the gates of document 01's ray lie."""
-    for own, number in zip(lists, numbers):
+def alter(sweep, sums):
+    """Writes the four sums of the second cell, where the gates of document 01's ray lie."""
+    for own, number in zip(sweep.sums, sums):
         own[1 if numpy is None else (0, 1)] = number
 
 
 def with_sums(weighting, sums):
     """A sweep for that ray, whose caller has altered these sums."""
     sweep = opened(EXAMPLE._replace(weighting=weighting), 1, 2)
-    alter(sweep.sums, sums)
+    alter(sweep, sums)
     return sweep
 
 
@@ -788,27 +731,10 @@ def altered_sums(checks):
         for sums in SUMS:
             sweep = opened(EXAMPLE._replace(weighting=weighting), 1, 2)
             sweep.take(*EXAMPLE[5:])
-            alter(sweep.sums, sums)
+            alter(sweep, sums)
             closed = sweep.close()
             cells = expected_cells(weighting, *([0, number] for number in sums))
             checks.equal(f"published of {sums}, weighting {weighting}", plain_lists([closed.means, closed.cell_qualities]), cells)
-
-
-def altered_extremes(checks):
-    """A ray makes of any pair the lesser and the greater; a refused ray, one that is not measured, and closing leave it."""
-    for pair in ((0, 0), (1, 7), (0, 8), (2, 6), (1, 6), (2, 7), (9, 3), (NO_LEAST, NO_LEAST), (65_534, 65_534), (0, NO_LEAST)):
-        sweep, held = opened(EXAMPLE, 2, 2), [[NO_LEAST, pair[0]], [0, pair[1]]]
-        alter(sweep.extremes, pair)
-        sweep_refused(checks, 8, f"a bad ray, from {pair}", sweep, lambda: sweep.take(0, [0, 65_533], [90, 101]))
-        sweep.take(0, [NOT_MEASURED] * 2, [90, 10])
-        checks.equal(f"least and greatest after a ray that is not measured, from {pair}", plain_lists(sweep.extremes), held)
-        sweep.take(*EXAMPLE[5:])
-        expected = [[NO_LEAST, min(pair[0], 1)], [0, max(pair[1], 7)]]
-        checks.equal(f"least and greatest from {pair}", plain_lists(sweep.extremes), expected)
-        alter(sweep.extremes, pair)
-        closed = sweep.close()
-        checks.equal(f"published beside {pair}", plain_lists([closed.means, closed.cell_qualities]), [[NO_MEAN, 1], [0, 50]])
-        checks.equal(f"least and greatest after closing, from {pair}", plain_lists(closed.extremes), held)
 
 
 def scan_refusals(checks):
@@ -999,16 +925,11 @@ def rays_not_taken(checks):
             (ValueError, "one of the sweep's own", (0, sweep.ledger.view("uint16")[0, :2], qualities)),
             (ValueError, "one of the sweep's own", (0, row, sweep.marks[2])),
             (ValueError, "one of the sweep's own", (0, row, sweep.weighted_sums.view("uint8")[0, -2:])),
-            (ValueError, "one of the sweep's own", (0, sweep.least[0], qualities)),
-            (ValueError, "one of the sweep's own", (0, sweep.greatest[0], qualities)),
-            (ValueError, "one of the sweep's own", (0, row, sweep.greatest.view("uint8")[0, -2:])),
         ]
     else:
         wrong += [
             (ValueError, "one of the sweep's own", (sweep.counts, [1, 7] * 2, [90, 10] * 2)),
             (ValueError, "one of the sweep's own", ([0] * 3, [1, 7] * 3, sweep.marks)),
-            (ValueError, "one of the sweep's own", (0, sweep.least, [90, 10])),
-            (ValueError, "one of the sweep's own", (0, sweep.greatest, [90, 10])),
         ]
     for kind, words, given in wrong:
         checks.raised(kind, words, f"a sweep given {given}", lambda: sweep.take(*given))
@@ -1056,15 +977,11 @@ def libraries(checks):
 
 def main():
     checks = Checks()
-    for part in (gates, angles, scans, least_and_greatest, forms_of_lists, kinds_of_lists, held_arrays):
-        part(checks)
-    for part in (scan_refusals, record_refusals, refusal_itself):
+    for part in (gates, angles, scans, forms_of_lists, kinds_of_lists, held_arrays, scan_refusals, record_refusals, refusal_itself):
         part(checks)
     for part in (publishing, forms_of_sums, held_sums, publishing_refusals, sums_not_taken):
         part(checks)
-    for part in (sweeps, forms_of_rays, swept_lists, fresh_lists, fed_sweeps, held_rays, opening_refusals, sweep_refusals):
-        part(checks)
-    for part in (altered_sums, altered_extremes):
+    for part in (sweeps, forms_of_rays, swept_lists, fresh_lists, fed_sweeps, held_rays, opening_refusals, sweep_refusals, altered_sums):
         part(checks)
     for part in (records, fields, numbers_of_64_bits, numbers_not_held, lists_not_taken, rays_not_taken, libraries):
         part(checks)

@@ -28,7 +28,6 @@ COMPARISONS = (
     "compare_placement",
     "compare_publish",
     "compare_scan",
-    "compare_extremes",
     "compare_programs",
     "compare_bindings",
     "compare_python",

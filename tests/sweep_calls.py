@@ -10,15 +10,13 @@ from library import Sweep
 from publish_calls import PUBLISHED
 from record_calls import answered, list_lines, number_of, refused
 from second_program import scan as scan_rules, sweep as rules
-from second_program.scan import Cells, Extremes, Lent, Sums
+from second_program.scan import Cells, Lent, Sums
 
 STATE = sizeof(Sweep) // sizeof(c_int64)  # numbers
 SUMS = Sums._fields
-EXTREMES = Extremes._fields
-SUMS_AND_EXTREMES = (*SUMS, *EXTREMES)
-TALLIED = Lent._fields
+ENTRIES_AND_SUMS = Lent._fields
 CELLS = Cells._fields
-HELD = (*TALLIED, *CELLS)
+HELD = (*ENTRIES_AND_SUMS, *CELLS)
 EXACT = {}  # no step from any length
 
 
@@ -72,16 +70,17 @@ class Desk:
 
     def open(self, scan, steps=EXACT):
         head = scan_struct(scan)
-        lengths = [len(held) for held in self.seen(SUMS_AND_EXTREMES, steps)]
+        lengths = [len(sums) for sums in self.seen(SUMS, steps)]
         expected = rules.open_sweep(rules.scan_of(array("q", bytes(head))), lengths)
-        arguments = head, *self.lent(SUMS_AND_EXTREMES, steps), sweep_within(self.state)
-        return self.compared("open", arguments, expected, SUMS_AND_EXTREMES, {"scan": head})
+        arguments = head, *self.lent(SUMS, steps), sweep_within(self.state)
+        return self.compared("open", arguments, expected, SUMS, {"scan": head})
 
     def take(self, rays, steps=EXACT):
-        expected = rules.take(self.sweep(), rays, Lent(*self.seen(TALLIED, steps)))
+        ledger, marks, *sums = self.seen(ENTRIES_AND_SUMS, steps)
+        expected = rules.take(self.sweep(), rays, ledger, marks, Sums(*sums))
         given = dict(zip(GIVEN, given_lists(rays)))
-        arguments = sweep_within(self.state), *lending_all(given.values()), *self.lent(TALLIED, steps)
-        return self.compared("take", arguments, expected, TALLIED, given)
+        arguments = sweep_within(self.state), *lending_all(given.values()), *self.lent(ENTRIES_AND_SUMS, steps)
+        return self.compared("take", arguments, expected, ENTRIES_AND_SUMS, given)
 
     def close(self, steps=EXACT):
         lengths = [len(cells) for cells in self.seen(CELLS, steps)]
@@ -111,8 +110,8 @@ class Desk:
 def flat(sweep, *lists):
     """The state's numbers and each list that is written."""
     yield rules.numbers_of(sweep)
-    for some in lists:
-        yield from some
+    for one in lists:
+        yield from one if isinstance(one, Sums) else [one]
 
 
 def beside_meant(number, found, meant):

@@ -7,8 +7,7 @@ from lent_lists import filled_with, within_margins
 from publish_calls import cells_of, publish_lines
 from record_calls import answered
 from second_program import scan as scan_rules
-from second_program.scan import Lent
-from sweep_calls import CELLS, Desk, beside_meant, exact_lengths, rays_of
+from sweep_calls import CELLS, ENTRIES_AND_SUMS, Desk, beside_meant, exact_lengths, rays_of
 
 
 class Course:
@@ -45,11 +44,10 @@ class Course:
         self.beside_whole_scan()
 
     def beside_rays(self, taken):
-        """Ledger, marks, sums and extremes are those of the rays so far; what is for rays not yet taken, and the cells, are as lent."""
+        """Ledger, marks and sums are those of the rays so far; what is for rays not yet taken, and the cells, are as lent."""
         entries, marks = (held[: taken * self.scan.gates] for held in (self.whole.ledger, self.whole.marks))
-        so_far = self.scan._replace(**rays_of(self.scan, 0, taken)._asdict())
-        lists = Lent(entries, marks, *scan_rules.sums_of(so_far, entries), *scan_rules.extremes_of(so_far, entries))
-        self.beside(f"after {taken} rays", lists._asdict() | dict.fromkeys(CELLS, ()))
+        sums = scan_rules.sums_of(self.scan._replace(**rays_of(self.scan, 0, taken)._asdict()), entries)
+        self.beside(f"after {taken} rays", dict(zip(ENTRIES_AND_SUMS, (entries, marks, *sums))) | dict.fromkeys(CELLS, ()))
 
     def beside(self, words, expected):
         """Each list holds these numbers from its start, and behind them what it held when it was lent."""
@@ -58,7 +56,7 @@ class Course:
                 self.lines.append(f"{described(self.scan)}: {words}: {name} is not that of these rays, and else as lent")
 
     def beside_whole_scan(self):
-        """The lists are those of the library's own tally, and so are both sheets that are published from the sums."""
+        """Ledger, marks and sums are those of the library's own tally, and so are both sheets that are published from the sums."""
         number, _, lists, _ = answer(self.compiled, self.scan, scan_rules.lent_lengths(self.scan))
         found = answered(number, 0)
         for name, held in lists._asdict().items():

@@ -5,7 +5,7 @@ from typing import NamedTuple
 from far_numbers import FAR, far_from
 from second_program.placement import Hrap, OtherKind, Radolan
 from second_program.record import grid_numbers
-from second_program.scan import Extremes, Lent, Scan, Sums
+from second_program.scan import Lent, Scan, Sums
 
 GIVEN = ("azimuths", "values", "qualities")
 
@@ -82,9 +82,8 @@ def scan_changes():
     yield Change(6, {}, {"values": 1, "qualities": -1}, {})
     yield Change(6, {}, {"ledger": 1, "marks": -1}, {})
     yield Change(6, {}, {"values": 5, "qualities": 5, "ledger": 5, "marks": 5}, {})
-    yield Change(6, {}, {"least": 1, "greatest": -1}, {})
-    for names, step in product((Sums._fields, Extremes._fields, Sums._fields + Extremes._fields), (-1, 1)):
-        yield Change(6, {}, dict.fromkeys(names, step), {})
+    yield Change(6, {}, dict.fromkeys(Sums._fields, 1), {})
+    yield Change(6, {}, dict.fromkeys(Sums._fields, -1), {})
     yield Change(6, {}, dict.fromkeys(LISTS, EMPTY), {})
     for place in (0, 500, 999):
         for azimuth in (0, 3_599_999):
@@ -119,17 +118,15 @@ def far_changes(good):
         yield from number_changes(NUMBER_OF.get(name, 5), [], named(name, *far_from(number)))
 
 
-# 3 rays, 15 gates and 8 cells: no list has the length of another kind. Each ray has values that are under most numbers of a list
-# of least values, and others that are over most of greatest values.
-GIVEN_LISTS = (
-    [0, 1_200_000, 2_400_000],
-    [1, 65_533, 2, 65_532, 3, 65_531, 4, 65_530, 5, 65_529, 6, 65_528, 7, 65_527, 8],
-    list(range(60, 75)),
-)
+# 3 rays, 15 gates and 8 cells: no list has the length of another kind.
 RADOLAN_SCAN = Scan(
-    *(3, 5, 200_000, 100_000, 510_000, 100_000, Radolan(-800_000, -421_300_000, 400_000, 4, 2), True), *GIVEN_LISTS
+    *(3, 5, 200_000, 100_000, 510_000, 100_000, Radolan(-800_000, -421_300_000, 400_000, 4, 2), True),
+    *([0, 1_200_000, 2_400_000], list(range(1, 16)), list(range(60, 75))),
 )
-HRAP_SCAN = Scan(*(3, 5, 200_000, 100_000, 600_000, -1_050_000, Hrap(399, 931, 4, 2), False), *GIVEN_LISTS)
+HRAP_SCAN = Scan(
+    *(3, 5, 200_000, 100_000, 600_000, -1_050_000, Hrap(399, 931, 4, 2), False),
+    *([0, 1_200_000, 2_400_000], list(range(1, 16)), list(range(60, 75))),
+)
 
 
 def resized(numbers, length):
@@ -164,7 +161,7 @@ def apply(good, changes):
     rays = lendable(scan.rays, 721, good.rays)
     gates = rays * lendable(scan.gates, 1_001, good.gates)
     cells = lendable(scan.grid.columns, 1_501, good.grid.columns) * lendable(scan.grid.rows, 1_501, good.grid.rows)
-    lengths = dict(zip(LISTS, (rays, *[gates] * 4, *[cells] * 6)))
+    lengths = dict(zip(LISTS, (rays, *[gates] * 4, *[cells] * 4)))
     for change in changes:
         for name, step in change.lengths.items():
             lengths[name] = max(0, lengths[name] + step)

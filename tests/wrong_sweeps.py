@@ -1,12 +1,12 @@
 """Operations of a sweep in every stage, with something changed: numbers of the state, lengths, contents, alone and together."""
-from itertools import combinations, product
+from itertools import combinations, cycle, product
 from typing import NamedTuple
 
 import wrong_scans
 from far_numbers import FAR, far_from
 from second_program.placement import Hrap
 from second_program.record import head_of
-from sweep_calls import CELLS, EXTREMES, HELD, SUMS, SUMS_AND_EXTREMES, TALLIED, Rays
+from sweep_calls import CELLS, ENTRIES_AND_SUMS, HELD, SUMS, Rays
 from wrong_scans import EMPTY, GIVEN, HRAP_SCAN, RADOLAN_SCAN, changes_of_each, lendable, resized
 
 # The first of these that applies is given.
@@ -15,7 +15,7 @@ ORDER = {
     "take": (19, 17, 1, 2, 3, 4, 5, 6, 7, 8, 31),
     "close": (19, 17, 1, 2, 3, 4, 5, 18, 6),
 }
-LISTS = {"take": (*GIVEN, *TALLIED), "close": (*SUMS, *CELLS)}
+LISTS = {"take": (*GIVEN, *ENTRIES_AND_SUMS), "close": (*SUMS, *CELLS)}
 
 GROUP = 2  # rays
 
@@ -103,7 +103,7 @@ def case(operation, scan, stage, changes):
     gates = lendable(state["gates"], 1_001, scan.gates)
     cells = lendable(state["columns"], 1_501, scan.grid.columns) * lendable(state["rows"], 1_501, scan.grid.rows)
     announced = lendable(state["rays"], 721, scan.rays) * gates
-    exact = (rays, *[rays * gates] * 2, *[announced] * 2, *[cells] * 8)
+    exact = (rays, *[rays * gates] * 2, *[announced] * 2, *[cells] * 6)
     lengths = dict(zip((*GIVEN, *HELD), exact))
     for change in changes:
         for name, step in change.lengths.items():
@@ -170,13 +170,9 @@ def other_heads(scan):
     yield Change(0, {"latitude": 200_000, "longitude": 1_800_000, "weighting": 0})
 
 
-def one_length(operation, steps):
-    """Each length alone, by each of the steps."""
-    return [Change(6, lengths={name: step}) for name, step in product(LISTS[operation], steps)]
-
-
 def length_changes(operation):
-    yield from one_length(operation, (3,))
+    for name, step in product(LISTS[operation], (-1, 1, 3, EMPTY)):
+        yield Change(6, lengths={name: step})
     yield Change(6, lengths=dict.fromkeys(LISTS[operation], EMPTY))
     for step in (-1, 1):
         yield Change(6, lengths=dict.fromkeys(SUMS, step))
@@ -186,9 +182,6 @@ def length_changes(operation):
         yield Change(6, lengths={"values": 5, "qualities": 5})
         yield Change(6, lengths={"azimuths": 2**16})
         yield Change(6, lengths={"ledger": 1, "marks": -1})
-        yield Change(6, lengths={"least": 1, "greatest": -1})
-        for step in (-1, 1):
-            yield Change(6, lengths=dict.fromkeys(EXTREMES, step))
         # Entries and marks of the group alone, and of the rays still to come.
         for step in (-20, -10):
             yield Change(6, lengths={"ledger": step})
@@ -239,14 +232,15 @@ STATE_PAIRED = (
 TAKE_PAIRED = (
     Change(0, group=7),
     Change(6, group=0),
-    *one_length("take", (-1, 1, EMPTY)),
+    *(Change(6, lengths={name: step}) for name, step in zip(LISTS["take"], cycle((1, -1)))),
     Change(7, contents={"azimuths": (0, 3_600_000)}),
     Change(7, contents={"azimuths": (999, 2**32 - 1)}),
     Change(8, contents={"qualities": (0, 101)}),
     Change(8, contents={"qualities": (999, 255)}),
     *FULL,
 )
-PAIRED = {"take": STATE_PAIRED + TAKE_PAIRED, "close": (*STATE_PAIRED, *one_length("close", (-1, 1, EMPTY)))}
+CLOSE_PAIRED = tuple(Change(6, lengths={name: step}) for name, step in zip(LISTS["close"], cycle((1, -1))))
+PAIRED = {"take": STATE_PAIRED + TAKE_PAIRED, "close": STATE_PAIRED + CLOSE_PAIRED}
 
 
 def touched(change):
@@ -332,5 +326,5 @@ def opening():
 
 
 def for_opening(change):
-    """Opening takes the numbers and the lists of sums and of extremes."""
-    return not change.contents and {*change.lengths} <= {*SUMS_AND_EXTREMES}
+    """Opening takes the numbers and lists of sums."""
+    return not change.contents and {*change.lengths} <= {*SUMS}

@@ -12,8 +12,6 @@ the two, and so with the mark 1, tallied once and published in both weightings:
 ([1, 1], [1, 1])
 >>> [uldrevin.flat(sums)[1] for sums in tally.sums]  # count, quality sum, value sum, weighted sum
 [2, 100, 8, 160]
->>> [uldrevin.flat(extremes)[1] for extremes in tally.extremes]  # least and greatest value
-[1, 7]
 >>> plain, by_quality = uldrevin.publish(uldrevin.PLAIN, *tally.sums), uldrevin.publish(uldrevin.BY_QUALITY, *tally.sums)
 >>> uldrevin.flat(plain.means), uldrevin.flat(by_quality.means), uldrevin.flat(by_quality.cell_qualities)
 ([65535, 4], [65535, 1], [0, 50])
@@ -58,7 +56,6 @@ BY_QUALITY = 1
 NO_ECHO = 65_534  # a value: measured with no echo, counts as 0
 NOT_MEASURED = 65_535  # a value: contributes nothing
 NO_MEAN = 65_535  # a mean with nothing to divide by, or of sums that give more than 65,533, as those of a tally never do
-NO_LEAST = 65_535  # the least value of a cell with no measured gate, whose greatest is 0
 OUTSIDE = 4_294_967_295  # the ledger entry of a gate outside the grid
 
 SENTENCES = {
@@ -175,20 +172,12 @@ class Sums(NamedTuple):
     weighted_sums: Any
 
 
-class Extremes(NamedTuple):
-    """For each cell: the least and the greatest value of its measured gates, no echo as 0; without such a gate NO_LEAST and 0."""
-
-    least: Any
-    greatest: Any
-
-
 class Tally(NamedTuple):
-    """The ledger and the marks, an entry and a mark, 1 or 0, for each gate; then the sums, as publish takes them, and the extremes."""
+    """The ledger and the marks, an entry and a mark, 1 or 0, for each gate; then the sums: `publish(PLAIN, *tally.sums)`."""
 
     ledger: Any
     marks: Any
     sums: Sums
-    extremes: Extremes
 
 
 class Cells(NamedTuple):
@@ -199,7 +188,7 @@ class Cells(NamedTuple):
 
 
 class Remapped(NamedTuple):
-    """The ledger and the marks, an entry and a mark, 1 or 0, for each gate; then sums, extremes and published numbers of cells."""
+    """The ledger and the marks, an entry and a mark, 1 or 0, for each gate; then the sums and the published numbers, one for each cell."""
 
     ledger: Any
     marks: Any
@@ -207,8 +196,6 @@ class Remapped(NamedTuple):
     quality_sums: Any
     value_sums: Any
     weighted_sums: Any
-    least: Any
-    greatest: Any
     means: Any
     cell_qualities: Any
 
@@ -216,11 +203,6 @@ class Remapped(NamedTuple):
     def sums(self):
         """The four sums, as publish takes them."""
         return Sums(self.counts, self.quality_sums, self.value_sums, self.weighted_sums)
-
-    @property
-    def extremes(self):
-        """The least and the greatest values."""
-        return Extremes(self.least, self.greatest)
 
 
 # The library. Site, grid, scan and sweep are lent as structs of 64-bit numbers, a list as a pointer and a length.
@@ -262,10 +244,10 @@ def _declare(library):
     site, grid, scan, sweep, length = map(POINTER, (_Site, _Grid, _Scan, _Sweep, c_uint64))
     arguments = {
         "place": [site, grid, c_int64, c_int64, POINTER(c_uint32), POINTER(c_int64), POINTER(c_int64), POINTER(c_uint8)],
-        "tally": [scan, *one_list * 11],
+        "tally": [scan, *one_list * 9],
         "publish": [c_int64, *one_list * 6],
-        "sweep_open": [scan, *one_list * 6, sweep],
-        "sweep_take": [sweep, *one_list * 11],
+        "sweep_open": [scan, *one_list * 4, sweep],
+        "sweep_take": [sweep, *one_list * 9],
         "sweep_close": [sweep, *one_list * 6],
         "record_head": [*one_list, scan],
         "record_field": [*one_list, c_uint32, length, length],
@@ -334,8 +316,8 @@ def _head_read(head):
 
 _ANYWHERE = array("Q", [0])  # what the pointer of an empty list points to
 
-# The lists that the library writes: ledger and marks, the four sums, least and greatest, means and cell qualities.
-_ENTRIES, _SUMS, _EXTREMES, _CELLS = "IB", "IIQQ", "HH", "HB"
+# The lists that the library writes: ledger and marks, the four sums, means and cell qualities.
+_ENTRIES, _SUMS, _CELLS = "IB", "IIQQ", "HB"
 
 # The shapes of given lists, as numpy has them: azimuths, gates of several rays, gates of one ray, sums.
 _BY_RAY, _BY_GATE, _OF_RAY, _BY_CELL = ("rays",), ("rays", "gates"), ("gates",), ("rows", "columns")
@@ -503,17 +485,16 @@ def place(site, grid, azimuth, range):
 
 
 def tally(site, grid, first, spacing, azimuths, values, qualities):
-    """The ledger, the marks, the sums, which serve both weightings, and the extremes of a scan; the module's text has an example."""
+    """The ledger, the marks and the sums of a scan, which serve both weightings; the module's text has an example."""
     scan = Scan(site, grid, PLAIN, first, spacing, azimuths, values, qualities)  # the weighting plays no part
     head, lists = _given(scan)
-    number = _asked(_library.uldrevin_tally, head, *lists, *_empty(_ENTRIES + _SUMS + _EXTREMES))
+    number = _asked(_library.uldrevin_tally, head, *lists, *_empty(_ENTRIES + _SUMS))
     if number != LENGTH_NOT_EXACT:
         raise Refusal(number)
     gates, cells = (head.rays, head.gates), (head.grid.rows, head.grid.columns)
-    entries = [_new(letter, gates) for letter in _ENTRIES]
-    sums, extremes = Sums(*(_new(letter, cells) for letter in _SUMS)), Extremes(*(_new(letter, cells) for letter in _EXTREMES))
-    _accept(_asked(_library.uldrevin_tally, head, *lists, *entries, *sums, *extremes))
-    return Tally(*entries, sums, extremes)
+    entries, sums = [_new(letter, gates) for letter in _ENTRIES], Sums(*(_new(letter, cells) for letter in _SUMS))
+    _accept(_asked(_library.uldrevin_tally, head, *lists, *entries, *sums))
+    return Tally(*entries, sums)
 
 
 def publish(weighting, counts, quality_sums, value_sums, weighted_sums):
@@ -544,8 +525,8 @@ def publish(weighting, counts, quality_sums, value_sums, weighted_sums):
 def remap(site, grid, weighting, first, spacing, azimuths, values, qualities):
     """A scan tallied, and published in one weighting: `remap(*scan)`. A weighting other than 0 is by quality."""
     weighting = _number("weighting", weighting)
-    ledger, marks, sums, extremes = tally(site, grid, first, spacing, azimuths, values, qualities)
-    return Remapped(ledger, marks, *sums, *extremes, *publish(weighting, *sums))
+    ledger, marks, sums = tally(site, grid, first, spacing, azimuths, values, qualities)
+    return Remapped(ledger, marks, *sums, *publish(weighting, *sums))
 
 
 def _own(name, words):
@@ -569,8 +550,6 @@ class Sweep:
     [1, 1, 1, 0, 1, 1]
     >>> [flat(cells)[1] for cells in (remapped.means, remapped.cell_qualities, remapped.counts)]
     [1, 60, 5]
-    >>> [flat(cells)[1] for cells in remapped.extremes]
-    [0, 7]
 
     The sums serve both weightings, whatever that of the sweep. It was closed by quality; the means of the plain sheet:
 
@@ -578,10 +557,10 @@ class Sweep:
     [65535, 3]
 
     A refused ray, or a group of rays with one bad ray, changes nothing, and the sweep goes on without it. The ledger and the marks of the
-    rays taken, the sums and the extremes are those that tally gives for the whole scan of these rays, however they were divided, and after
-    closing the cells are those that publish gives from these sums, unless the caller has altered a list. Until its ray is taken a gate's
-    ledger entry is OUTSIDE and its mark 0; until the sweep is closed each mean is NO_MEAN and each cell's quality 0. Threads that share a
-    sweep wait for each other.
+    rays taken, and the sums, are those that tally gives for the whole scan of these rays, however they were divided, and after closing the
+    cells are those that publish gives from these sums, unless the caller has altered a list. Until its ray is taken a gate's ledger entry
+    is OUTSIDE and its mark 0; until the sweep is closed each mean is NO_MEAN and each cell's quality 0. Threads that share a sweep wait for
+    each other.
     """
 
     def __init__(self, site, grid, weighting, first, spacing, rays, gates):
@@ -591,13 +570,13 @@ class Sweep:
         """
         head = _head(site, grid, weighting, first, spacing, rays, gates)
         self._state, self._lock = _Sweep(), Lock()
-        number = _asked(_library.uldrevin_sweep_open, head, *_empty(_SUMS + _EXTREMES), self._state)
+        number = _asked(_library.uldrevin_sweep_open, head, *_empty(_SUMS), self._state)
         if number != LENGTH_NOT_EXACT:
             raise Refusal(number)
         gates, cells = (head.rays, head.gates), (head.grid.rows, head.grid.columns)
-        opened = [_new(letter, cells) for letter in _SUMS + _EXTREMES]
-        _accept(_asked(_library.uldrevin_sweep_open, head, *opened, self._state))
-        self._lists = Remapped(_new("I", gates, OUTSIDE), _new("B", gates), *opened, _new("H", cells, NO_MEAN), _new("B", cells))
+        sums = [_new(letter, cells) for letter in _SUMS]
+        _accept(_asked(_library.uldrevin_sweep_open, head, *sums, self._state))
+        self._lists = Remapped(_new("I", gates, OUTSIDE), _new("B", gates), *sums, _new("H", cells, NO_MEAN), _new("B", cells))
 
     ledger = _own("ledger", "For each gate of all rays announced: its cell, or OUTSIDE.")
     marks = _own("marks", "For each gate of all rays announced: its mark, 1 or 0; 0 until its ray is taken.")
@@ -605,12 +584,9 @@ class Sweep:
     quality_sums = _own("quality_sums", "For each cell: the sum of the qualities of these gates.")
     value_sums = _own("value_sums", "For each cell: the sum of the values of these gates.")
     weighted_sums = _own("weighted_sums", "For each cell: the sum of the values of these gates, each times its quality.")
-    least = _own("least", "For each cell: the least value of these gates, no echo as 0; NO_LEAST where there is none.")
-    greatest = _own("greatest", "For each cell: the greatest value of these gates, no echo as 0; 0 where there is none.")
     means = _own("means", "For each cell: its mean, published on closing.")
     cell_qualities = _own("cell_qualities", "For each cell: its quality, published on closing.")
     sums = _own("sums", "The four sums, as publish takes them.")
-    extremes = _own("extremes", "The least and the greatest values.")
     head = property(lambda self: _head_read(self._state.scan), doc="The numbers of the scan; its rays are those announced.")
     taken = property(lambda self: self._state.taken, doc="How many rays were taken so far.")
     closed = property(lambda self: self._state.closed != 0, doc="Whether the sweep is closed.")
@@ -630,7 +606,7 @@ class Sweep:
         # The library is told lengths alone, and would take rays and gates that have changed places.
         if form == _BY_GATE and shape and shape != needed and prod(shape) == prod(needed):
             raise ValueError(f"values and qualities must have the shape {needed} for these azimuths, and have {shape}")
-        own = self._lists[:8]  # all but the cells
+        own = self._lists[:6]  # the ledger, the marks and the sums
         if any(_overlap(given, written) for given in lists for written in own):
             raise ValueError("a list that is given must not be one of the sweep's own")
         with self._lock:
@@ -662,7 +638,7 @@ class Sweep:
         The lists, which are the sweep's own, come back as from remap. Refusals, in this order: 19, 18, 6.
         """
         with self._lock:
-            _accept(_asked(_library.uldrevin_sweep_close, self._state, *self.sums, self.means, self.cell_qualities))
+            _accept(_asked(_library.uldrevin_sweep_close, self._state, *self._lists[2:]))  # the sums and the cells
         return self._lists
 
 

@@ -1,7 +1,6 @@
-"""Document 01's whole scan: the refusals, the ledger, the sums and the cells; T-02's marks; T-05's tally and its publishing; T-06's
-least and greatest value of each cell.
+"""Document 01's whole scan: the refusals, the ledger, the sums and the cells; T-02's marks; T-05's tally and its publishing.
 
-It is written from document 01, T-01's rule for altered sums, T-02, T-05 and T-06 alone and shares nothing with the library.
+It is written from document 01, T-01's rule for altered sums, T-02 and T-05 alone and shares nothing with the library.
 The position follows the same rule as that of one gate in placement.py. Here it is spelled out in whole numbers, so that what
 the site decides is worked once a scan, what the azimuth decides once a ray, and what the range decides once a gate number.
 """
@@ -15,7 +14,6 @@ NOT_MEASURED = 65_535
 NO_MEAN = 65_535
 GREATEST_MEAN = 65_533
 GREATEST_QUALITY = 100
-EMPTY_CELL = 65_535, 0  # its least and its greatest value
 
 
 class Scan(NamedTuple):
@@ -41,13 +39,6 @@ class Sums(NamedTuple):
     weighted_sums: Any  # of value x quality
 
 
-class Extremes(NamedTuple):
-    """The same for the lists of the least and the greatest value."""
-
-    least: Any
-    greatest: Any
-
-
 class Lent(NamedTuple):
     """The same for each of the lists that a tally writes."""
 
@@ -57,16 +48,10 @@ class Lent(NamedTuple):
     quality_sums: Any
     value_sums: Any
     weighted_sums: Any
-    least: Any
-    greatest: Any
 
     @property
     def sums(self):
-        return Sums(*self[2:6])
-
-    @property
-    def extremes(self):
-        return Extremes(*self[6:])
+        return Sums(*self[2:])
 
 
 class Cells(NamedTuple):
@@ -90,7 +75,7 @@ def centre(scan, gate):
 def lent_lengths(scan):
     """The exact lengths of the lists that a tally writes."""
     gates, cells = scan.rays * scan.gates, scan.grid.columns * scan.grid.rows
-    return Lent(gates, gates, *[cells] * 6)
+    return Lent(gates, gates, cells, cells, cells, cells)
 
 
 # Refusals.
@@ -132,7 +117,7 @@ def refusal(scan, lengths):
     return min(wrong_numbers(scan, lengths), default=0)
 
 
-# Ledger, marks, sums and extremes.
+# Ledger, marks and sums.
 
 
 def positions(scan):
@@ -203,16 +188,6 @@ def sums_of(scan, entries):
     return sums
 
 
-def extremes_of(scan, entries):
-    """The least and the greatest value of the measured gates of each cell. Their qualities play no part."""
-    cells = scan.grid.columns * scan.grid.rows
-    extremes = Extremes(*([of_empty] * cells for of_empty in EMPTY_CELL))
-    for cell, gates in contributors(scan, entries).items():
-        values = [gate.value for gate in gates]
-        extremes.least[cell], extremes.greatest[cell] = min(values), max(values)
-    return extremes
-
-
 def tally(scan, lengths):
     """The answer, where the lists to be written have these lengths."""
     number = refusal(scan, lengths)
@@ -220,7 +195,7 @@ def tally(scan, lengths):
         return Tallied(number, None)
     places = positions(scan)
     entries = ledger(scan.grid, places)
-    return Tallied(0, Lent(entries, marks(scan.grid, places), *sums_of(scan, entries), *extremes_of(scan, entries)))
+    return Tallied(0, Lent(entries, marks(scan.grid, places), *sums_of(scan, entries)))
 
 
 # Publishing.

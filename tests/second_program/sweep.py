@@ -1,6 +1,6 @@
-"""T-01's sweep, a scan that is fed ray by ray: opening, taking rays and closing; with T-02's marks, T-05's sums and T-06's extremes.
+"""T-01's sweep, a scan that is fed ray by ray: opening, taking rays and closing; with T-02's marks and T-05's sums.
 
-It is written from T-01, T-02, T-05, T-06 and document 01 alone and shares nothing with the library.
+It is written from T-01, T-02, T-05 and document 01 alone and shares nothing with the library.
 The state is handed over and handed back by value. Each operation answers with the new state and the lists that it has
 written, or with the refusal number.
 """
@@ -8,7 +8,7 @@ from typing import NamedTuple
 
 from second_program import record, scan as rules
 from second_program.placement import Hrap, OtherKind, Radolan
-from second_program.scan import Extremes, Lent, Scan, Sums
+from second_program.scan import Scan, Sums
 
 LARGEST = 2**32 - 1
 
@@ -68,35 +68,34 @@ def cells_of(scan):
 
 
 def open_sweep(scan, lengths):
-    """The new state, the sums and the extremes, where their lists have these lengths. The scan's own lists play no part."""
+    """The new state and the sums, where the lists of sums have these lengths. The scan's own lists play no part."""
     scan = scan._replace(azimuths=[], values=[], qualities=[])
     cells = cells_of(scan)
     wrong = rules.wrong_numbers_where(scan, all(length == cells for length in lengths))
     if wrong:
         return min(wrong)
-    return Sweep(scan, 0, False), rules.sums_of(scan, []), rules.extremes_of(scan, [])
+    return Sweep(scan, 0, False), Sums([0] * cells, [0] * cells, [0] * cells, [0] * cells)
 
 
-def take(sweep, rays, lent):
-    """The new state and what the lent lists hold, once these rays are taken: an object with azimuths, values and qualities."""
+def take(sweep, rays, ledger, marks, sums):
+    """The new state, ledger, marks and sums, once these rays are taken: an object with azimuths, values and qualities."""
     if sweep.closed:
         return 19
     if sweep.taken + len(rays.azimuths) > sweep.scan.rays:
         return 17
     group = sweep.scan._replace(azimuths=rays.azimuths, values=rays.values, qualities=rays.qualities)
-    wrong = rules.wrong_numbers_where(group, group_exact(group, lent))
+    wrong = rules.wrong_numbers_where(group, group_exact(group, ledger, marks, sums))
     if wrong:
         return min(wrong)
     places = rules.positions(group)
     entries = rules.ledger(group.grid, places)
-    grown = Sums(*map(added, lent.sums, rules.sums_of(group, entries)))
+    grown = Sums(*map(added, sums, rules.sums_of(group, entries)))
     if any(total > widest for totals, widest in zip(grown, WIDEST) for total in totals):
         return 31
     start = sweep.taken * group.gates
-    ledger = written_from(start, lent.ledger, entries)
-    marks = written_from(start, lent.marks, rules.marks(group.grid, places))
-    extremes = widened(lent.extremes, rules.extremes_of(group, entries))
-    return sweep._replace(taken=sweep.taken + len(rays.azimuths)), Lent(ledger, marks, *grown, *extremes)
+    ledger = written_from(start, ledger, entries)
+    marks = written_from(start, marks, rules.marks(group.grid, places))
+    return sweep._replace(taken=sweep.taken + len(rays.azimuths)), ledger, marks, grown
 
 
 def written_from(start, held, numbers):
@@ -104,24 +103,19 @@ def written_from(start, held, numbers):
     return [*held[:start], *numbers, *held[start + len(numbers) :]]
 
 
-def group_exact(group, lent):
+def group_exact(group, ledger, marks, sums):
     """Whether there is a ray and each list has its length; ledger and marks are those of all rays announced."""
     rays = len(group.azimuths)
     return (
         rays >= 1
         and len(group.values) == len(group.qualities) == rays * group.gates
-        and len(lent.ledger) == len(lent.marks) == group.rays * group.gates
-        and all(len(held) == cells_of(group) for held in (*lent.sums, *lent.extremes))
+        and len(ledger) == len(marks) == group.rays * group.gates
+        and all(len(held) == cells_of(group) for held in sums)
     )
 
 
 def added(held, shares):
     return [one + other for one, other in zip(held, shares)]
-
-
-def widened(held, of_group):
-    """The lesser and the greater of what is held, whatever that is, and of the group's own."""
-    return Extremes([*map(min, held.least, of_group.least)], [*map(max, held.greatest, of_group.greatest)])
 
 
 def close(sweep, sums, lengths):
@@ -137,4 +131,4 @@ def close(sweep, sums, lengths):
         return 18
     if any(length != cells_of(sweep.scan) for length in (*map(len, sums), *lengths)):
         return 6
-    return sweep._replace(closed=True), rules.publish(sweep.scan.by_quality, sums, lengths)
+    return sweep._replace(closed=True), *rules.publish(sweep.scan.by_quality, sums, lengths)

@@ -1,5 +1,4 @@
-//! Reads a scan record from standard input and prints its grid, as the program sheet does, then the least and the greatest value of each
-//! cell with a count, then its ledger with the marks.
+//! Reads a scan record from standard input and prints its grid, as the program sheet does, then its ledger with the marks.
 
 use std::io::{self, Read, Write};
 use std::process::ExitCode;
@@ -38,19 +37,6 @@ fn print_grid(
     Ok(())
 }
 
-fn print_extremes(out: &mut impl Write, scan: &ScanRead, tally: &Tally) -> io::Result<()> {
-    let columns = scan.head.grid.columns() as usize;
-    let pairs = tally.extremes.least.iter().zip(&tally.extremes.greatest);
-    writeln!(out, "least and greatest")?;
-    for (cell, (count, (least, greatest))) in tally.sums.counts.iter().zip(pairs).enumerate() {
-        if *count != 0 {
-            let (column, row) = (cell % columns, cell / columns);
-            writeln!(out, "{column} {row} {least} {greatest}")?;
-        }
-    }
-    Ok(())
-}
-
 fn print_ledger(out: &mut impl Write, scan: &ScanRead, tally: &Tally) -> io::Result<()> {
     let gates = scan.head.gates as usize;
     writeln!(out, "ledger")?;
@@ -76,7 +62,6 @@ fn main() -> io::Result<ExitCode> {
         }
         Ok((scan, tally, cells)) => {
             print_grid(&mut out, &scan, &tally, &cells)?;
-            print_extremes(&mut out, &scan, &tally)?;
             print_ledger(&mut out, &scan, &tally)?;
             Ok(ExitCode::SUCCESS)
         }

@@ -1,14 +1,11 @@
-//! Reads a scan record from standard input, feeds its rays one at a time to a sweep, and prints its grid, as the program sheet does, then
-//! the least and the greatest value of each cell with a count.
+//! Reads a scan record from standard input, feeds its rays one at a time to a sweep, and prints its grid, as the program sheet does.
 
 use std::io::{self, Read, Write};
 use std::process::ExitCode;
 
-use uldrevin::{
-    read_record, Cells, EntryLists, Extremes, GateLists, Refusal, ScanRead, Sums, Sweep,
-};
+use uldrevin::{read_record, Cells, EntryLists, GateLists, Refusal, ScanRead, Sums, Sweep};
 
-fn swept(scan: &ScanRead) -> Result<(Sums, Extremes, Cells), Refusal> {
+fn swept(scan: &ScanRead) -> Result<(Sums, Cells), Refusal> {
     let (gates, all_gates) = (scan.head.gates as usize, scan.head.all_gates());
     let all_cells = scan.head.all_cells();
     let (mut ledger, mut marks) = (vec![0; all_gates], vec![0; all_gates]);
@@ -16,14 +13,14 @@ fn swept(scan: &ScanRead) -> Result<(Sums, Extremes, Cells), Refusal> {
         ledger: &mut ledger,
         marks: &mut marks,
     };
-    let (mut kept_sums, mut kept_extremes) = (Sums::zeros(all_cells), Extremes::empty(all_cells));
-    let (mut sums, mut extremes) = (kept_sums.lists(), kept_extremes.lists());
+    let mut kept = Sums::zeros(all_cells);
+    let mut sums = kept.lists();
     let mut cells = Cells {
         means: vec![0; all_cells],
         cell_qualities: vec![0; all_cells],
     };
 
-    let mut sweep = Sweep::open(scan.head, &mut sums, &mut extremes)?;
+    let mut sweep = Sweep::open(scan.head, &mut sums)?;
     let rays = scan.values.chunks(gates).zip(scan.qualities.chunks(gates));
     for (azimuth, (values, qualities)) in scan.azimuths.chunks(1).zip(rays) {
         let ray = GateLists {
@@ -31,11 +28,11 @@ fn swept(scan: &ScanRead) -> Result<(Sums, Extremes, Cells), Refusal> {
             values,
             qualities,
         };
-        sweep = sweep.take(ray, &mut entries, &mut sums, &mut extremes)?;
+        sweep = sweep.take(ray, &mut entries, &mut sums)?;
     }
     sweep.close(&sums, &mut cells.means, &mut cells.cell_qualities)?;
 
-    Ok((kept_sums, kept_extremes, cells))
+    Ok((kept, cells))
 }
 
 fn print_grid(out: &mut impl Write, scan: &ScanRead, sums: &Sums, cells: &Cells) -> io::Result<()> {
@@ -53,24 +50,6 @@ fn print_grid(out: &mut impl Write, scan: &ScanRead, sums: &Sums, cells: &Cells)
     Ok(())
 }
 
-fn print_extremes(
-    out: &mut impl Write,
-    scan: &ScanRead,
-    sums: &Sums,
-    extremes: &Extremes,
-) -> io::Result<()> {
-    let columns = scan.head.grid.columns() as usize;
-    let pairs = extremes.least.iter().zip(&extremes.greatest);
-    writeln!(out, "least and greatest")?;
-    for (cell, (count, (least, greatest))) in sums.counts.iter().zip(pairs).enumerate() {
-        if *count != 0 {
-            let (column, row) = (cell % columns, cell / columns);
-            writeln!(out, "{column} {row} {least} {greatest}")?;
-        }
-    }
-    Ok(())
-}
-
 fn main() -> io::Result<ExitCode> {
     let mut record = Vec::new();
     io::stdin().read_to_end(&mut record)?;
@@ -80,9 +59,8 @@ fn main() -> io::Result<ExitCode> {
             writeln!(out, "refused {}", refusal.number)?;
             Ok(ExitCode::FAILURE)
         }
-        Ok(((sums, extremes, cells), scan)) => {
+        Ok(((sums, cells), scan)) => {
             print_grid(&mut out, &scan, &sums, &cells)?;
-            print_extremes(&mut out, &scan, &sums, &extremes)?;
             Ok(ExitCode::SUCCESS)
         }
     }

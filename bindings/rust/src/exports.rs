@@ -107,10 +107,6 @@ extern "C" {
         value_sums_length: usize,
         weighted_sums: *mut u64,
         weighted_sums_length: usize,
-        least: *mut u16,
-        least_length: usize,
-        greatest: *mut u16,
-        greatest_length: usize,
     ) -> u32;
 
     pub fn uldrevin_publish(
@@ -139,10 +135,6 @@ extern "C" {
         value_sums_length: usize,
         weighted_sums: *mut u64,
         weighted_sums_length: usize,
-        least: *mut u16,
-        least_length: usize,
-        greatest: *mut u16,
-        greatest_length: usize,
         sweep: *mut SweepNumbers,
     ) -> u32;
 
@@ -166,10 +158,6 @@ extern "C" {
         value_sums_length: usize,
         weighted_sums: *mut u64,
         weighted_sums_length: usize,
-        least: *mut u16,
-        least_length: usize,
-        greatest: *mut u16,
-        greatest_length: usize,
     ) -> u32;
 
     pub fn uldrevin_sweep_close(

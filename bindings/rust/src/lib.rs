@@ -4,10 +4,10 @@
 //! a [`Refusal`] with its number, and a refusal leaves every lent list as it came in. [`exports`] has the functions as C has them.
 //!
 //! Two gates of one ray on a grid of two cells, tallied once and published in both weightings. They lie on the line between the two cells,
-//! and so have the mark 1. The tally also has the least and the greatest value of each cell:
+//! and so have the mark 1:
 //!
 //! ```
-//! use uldrevin::{publish, tally, GateLists, Grid, HrapGrid, ScanHead, Site, Weighting, NO_LEAST, NO_MEAN};
+//! use uldrevin::{publish, tally, GateLists, Grid, HrapGrid, ScanHead, Site, Weighting, NO_MEAN};
 //!
 //! let head = ScanHead {
 //!     site: Site { latitude: 600_000, longitude: -1_050_000 },
@@ -25,8 +25,6 @@
 //! assert_eq!(tally.sums.counts, [0, 2]);
 //! assert_eq!(tally.sums.value_sums, [0, 8]);
 //! assert_eq!(tally.sums.weighted_sums, [0, 160]); // 1 x 90 + 7 x 10
-//! assert_eq!(tally.extremes.least, [NO_LEAST, 1]);
-//! assert_eq!(tally.extremes.greatest, [0, 7]);
 //!
 //! let plain = publish(Weighting::Plain, &tally.sums)?;
 //! assert_eq!(plain.means, [NO_MEAN, 4]); // 8 / 2
@@ -39,7 +37,6 @@
 //! A [`Sweep`] takes the rays of a scan as the antenna turns.
 
 pub mod exports;
-mod extremes;
 mod gate;
 mod numbers;
 mod publish;
@@ -50,7 +47,6 @@ mod sums;
 mod sweep;
 mod tally;
 
-pub use extremes::{ExtremeLists, Extremes};
 pub use gate::{place, Placement};
 pub use publish::{publish, publish_into, Cells};
 pub use record::{
@@ -71,8 +67,6 @@ pub const NO_ECHO: u16 = 65_534;
 pub const NOT_MEASURED: u16 = 65_535;
 /// The mean of a cell whose divisor is 0, or whose sums give more than 65,533, as those of a tally never do.
 pub const NO_MEAN: u16 = 65_535;
-/// The least value of a cell with no measured gate, whose greatest is 0.
-pub const NO_LEAST: u16 = 65_535;
 
 /// The radar's site: latitude 200,000 to 750,000, longitude -1,800,000 to 1,800,000, east positive.
 #[derive(Clone, Copy, Debug, PartialEq, Eq)]

@@ -3,20 +3,20 @@
 use crate::exports::{self, SweepNumbers};
 use crate::numbers::sweep_of;
 use crate::refusal::done;
-use crate::{EntryLists, ExtremeLists, GateLists, Refusal, ScanHead, SumLists};
+use crate::{EntryLists, GateLists, Refusal, ScanHead, SumLists};
 
 /// A scan in the making. Each method takes the state and gives the new one; after a refusal the caller goes on with the old one.
 ///
 /// The lists are the caller's, and as long as those of the whole scan from the start. While a caller hands on the latest state and
-/// untouched lists, the ledger and the marks of the rays taken, the sums, and the least and the greatest values are those that
-/// [`tally`](crate::tally()) gives for the whole scan of these rays, however they were divided, and after closing the cells are those that
-/// [`publish`](crate::publish()) gives from these sums in the weighting of the head. From the same sums `publish` gives the cells in either
-/// weighting, at any time. The state is plain numbers, which are tested again at each call.
+/// untouched lists, the ledger and the marks of the rays taken, and the sums, are those that [`tally`](crate::tally()) gives for the whole
+/// scan of these rays, however they were divided, and after closing the cells are those that [`publish`](crate::publish()) gives from these
+/// sums in the weighting of the head. From the same sums `publish` gives the cells in either weighting, at any time. The state is plain
+/// numbers, which are tested again at each call.
 ///
 /// Two rays on a grid of two cells. The second is refused, and taken once it is mended:
 ///
 /// ```
-/// use uldrevin::{publish, EntryLists, ExtremeLists, GateLists, Grid, HrapGrid, ScanHead, Site, Sums, Sweep, Weighting, NO_LEAST};
+/// use uldrevin::{publish, EntryLists, GateLists, Grid, HrapGrid, ScanHead, Site, Sums, Sweep, Weighting};
 ///
 /// let head = ScanHead {
 ///     site: Site { latitude: 600_000, longitude: -1_050_000 },
@@ -29,36 +29,32 @@ use crate::{EntryLists, ExtremeLists, GateLists, Refusal, ScanHead, SumLists};
 /// };
 /// let mut kept = Sums::zeros(2);
 /// let mut sums = kept.lists();
-/// let mut extremes = ExtremeLists { least: &mut [0; 2], greatest: &mut [0; 2] };
 /// let mut entries = EntryLists { ledger: &mut [0; 4], marks: &mut [0; 4] };
 /// let (mut means, mut cell_qualities) = ([0; 2], [0; 2]);
 ///
-/// let mut sweep = Sweep::open(head, &mut sums, &mut extremes)?;
-/// let ray = GateLists { azimuths: &[0], values: &[3, 5], qualities: &[90, 10] };
-/// sweep = sweep.take(ray, &mut entries, &mut sums, &mut extremes)?;
-/// assert_eq!(extremes.least, [NO_LEAST, 3]);
-/// assert_eq!(extremes.greatest, [0, 5]);
+/// let mut sweep = Sweep::open(head, &mut sums)?;
+/// let ray = GateLists { azimuths: &[0], values: &[1, 7], qualities: &[90, 10] };
+/// sweep = sweep.take(ray, &mut entries, &mut sums)?;
 ///
-/// let bad = GateLists { azimuths: &[900_000], values: &[1, 7], qualities: &[101, 40] };
-/// let refusal = sweep.take(bad, &mut entries, &mut sums, &mut extremes).unwrap_err();
+/// let bad = GateLists { azimuths: &[900_000], values: &[3, 5], qualities: &[101, 40] };
+/// let refusal = sweep.take(bad, &mut entries, &mut sums).unwrap_err();
 /// assert_eq!(refusal.to_string(), "refusal 8: a quality is over 100");
-/// assert_eq!((sweep.taken, &*sums.counts, extremes.greatest[1]), (1, &[0, 2][..], 5));
+/// assert_eq!((sweep.taken, &*sums.counts), (1, &[0, 2][..]));
 ///
 /// assert_eq!(sweep.close(&sums, &mut means, &mut cell_qualities).unwrap_err().number, 18); // a ray is missing
 ///
 /// let mended = GateLists { qualities: &[60, 40], ..bad };
-/// sweep = sweep.take(mended, &mut entries, &mut sums, &mut extremes)?;
+/// sweep = sweep.take(mended, &mut entries, &mut sums)?;
 /// sweep = sweep.close(&sums, &mut means, &mut cell_qualities)?;
 /// assert_eq!(entries.ledger, [1, 1, 1, 1]);
 /// assert_eq!(entries.marks, [1, 1, 1, 0]); // all but the last lie on the line between the two cells
-/// assert_eq!((means[1], cell_qualities[1]), (3, 50)); // (3 x 90 + 5 x 10 + 1 x 60 + 7 x 40) / 200
-/// assert_eq!((extremes.least[1], extremes.greatest[1]), (1, 7)); // what went into this mean
+/// assert_eq!((means[1], cell_qualities[1]), (2, 50)); // (1 x 90 + 7 x 10 + 3 x 60 + 5 x 40) / 200
 ///
-/// assert_eq!(sweep.take(ray, &mut entries, &mut sums, &mut extremes).unwrap_err().number, 19); // it is closed
+/// assert_eq!(sweep.take(ray, &mut entries, &mut sums).unwrap_err().number, 19); // it is closed
 /// let altered = Sweep { closed: false, ..sweep };
-/// assert_eq!(altered.take(ray, &mut entries, &mut sums, &mut extremes).unwrap_err().number, 17); // both rays are taken
+/// assert_eq!(altered.take(ray, &mut entries, &mut sums).unwrap_err().number, 17); // both rays are taken
 ///
-/// assert_eq!(publish(Weighting::Plain, &kept)?.means[1], 4); // the other sheet: (3 + 5 + 1 + 7) / 4
+/// assert_eq!(publish(Weighting::Plain, &kept)?.means[1], 4); // the other sheet: (1 + 7 + 3 + 5) / 4
 /// # Ok::<(), uldrevin::Refusal>(())
 /// ```
 #[derive(Clone, Copy, Debug, PartialEq, Eq)]
@@ -71,12 +67,8 @@ pub struct Sweep {
 }
 
 impl Sweep {
-    /// Opens a sweep: the sums become 0, each cell's least value [`NO_LEAST`](crate::NO_LEAST) and its greatest 0. Refusals 1 to 6.
-    pub fn open(
-        head: ScanHead,
-        sums: &mut SumLists,
-        extremes: &mut ExtremeLists,
-    ) -> Result<Sweep, Refusal> {
+    /// Opens a sweep: the sums become 0. Refusals 1 to 6.
+    pub fn open(head: ScanHead, sums: &mut SumLists) -> Result<Sweep, Refusal> {
         let (scan, mut numbers) = (head.into(), SweepNumbers::default());
         // The structs are this function's, and every pointer to numbers goes with the length of its own list.
         done(unsafe {
@@ -90,10 +82,6 @@ impl Sweep {
                 sums.value_sums.len(),
                 sums.weighted_sums.as_mut_ptr(),
                 sums.weighted_sums.len(),
-                extremes.least.as_mut_ptr(),
-                extremes.least.len(),
-                extremes.greatest.as_mut_ptr(),
-                extremes.greatest.len(),
                 &mut numbers,
             )
         })?;
@@ -101,14 +89,13 @@ impl Sweep {
     }
 
     /// Takes one ray or several, which follow those taken before. Their ledger entries and marks are written, those of other rays stay,
-    /// and the four sums grow by their gates, whatever the weighting. Of each cell the least value becomes the lesser of what it was and
-    /// theirs, and the greatest the greater. Refusals, in this order: 19, 17, 1 to 5, 6 also for no rays, 7, 8, 31.
+    /// and the four sums grow by their gates, whatever the weighting. Refusals, in this order: 19, 17, 1 to 5, 6 also for no rays, 7, 8,
+    /// 31.
     pub fn take(
         self,
         rays: GateLists,
         entries: &mut EntryLists,
         sums: &mut SumLists,
-        extremes: &mut ExtremeLists,
     ) -> Result<Sweep, Refusal> {
         let mut numbers = self.into();
         // The struct is this function's, every pointer to numbers goes with the length of its own list, and no two of them overlap.
@@ -133,10 +120,6 @@ impl Sweep {
                 sums.value_sums.len(),
                 sums.weighted_sums.as_mut_ptr(),
                 sums.weighted_sums.len(),
-                extremes.least.as_mut_ptr(),
-                extremes.least.len(),
-                extremes.greatest.as_mut_ptr(),
-                extremes.greatest.len(),
             )
         })?;
         Ok(sweep_of(numbers))

@@ -1,7 +1,7 @@
-//! The tally of a whole scan: its gates in, the ledger, the marks, the sums and the least and the greatest values out.
+//! The tally of a whole scan: its gates in, the ledger, the marks and the sums out.
 
 use crate::refusal::done;
-use crate::{exports, ExtremeLists, Extremes, GateLists, Refusal, ScanHead, SumLists, Sums};
+use crate::{exports, GateLists, Refusal, ScanHead, SumLists, Sums};
 
 /// The lists of entries of gates: a ledger entry and a mark, 1 or 0, a gate of the whole scan.
 #[derive(Debug)]
@@ -10,13 +10,12 @@ pub struct EntryLists<'a> {
     pub marks: &'a mut [u8],
 }
 
-/// A tallied scan, in the lists of [`EntryLists`], [`SumLists`] and [`ExtremeLists`].
+/// A tallied scan, in the lists of [`EntryLists`] and [`SumLists`].
 #[derive(Clone, Debug, Default, PartialEq, Eq)]
 pub struct Tally {
     pub ledger: Vec<u32>,
     pub marks: Vec<u8>,
     pub sums: Sums,
-    pub extremes: Extremes,
 }
 
 impl Tally {
@@ -25,7 +24,6 @@ impl Tally {
             ledger: vec![0; gates],
             marks: vec![0; gates],
             sums: Sums::zeros(cells),
-            extremes: Extremes::empty(cells),
         }
     }
 
@@ -34,8 +32,7 @@ impl Tally {
             ledger: &mut self.ledger,
             marks: &mut self.marks,
         };
-        let (mut sums, mut extremes) = (self.sums.lists(), self.extremes.lists());
-        tally_into(head, scan, &mut entries, &mut sums, &mut extremes)
+        tally_into(head, scan, &mut entries, &mut self.sums.lists())
     }
 }
 
@@ -75,10 +72,9 @@ pub fn tally_into(
     scan: GateLists,
     entries: &mut EntryLists,
     sums: &mut SumLists,
-    extremes: &mut ExtremeLists,
 ) -> Result<(), Refusal> {
     let numbers = head.into();
-    // Every pointer goes with the length of its own list, and no two lists of `entries`, `sums` and `extremes` overlap.
+    // Every pointer goes with the length of its own list, and no two lists of `entries` and `sums` overlap.
     done(unsafe {
         exports::uldrevin_tally(
             &numbers,
@@ -100,10 +96,6 @@ pub fn tally_into(
             sums.value_sums.len(),
             sums.weighted_sums.as_mut_ptr(),
             sums.weighted_sums.len(),
-            extremes.least.as_mut_ptr(),
-            extremes.least.len(),
-            extremes.greatest.as_mut_ptr(),
-            extremes.greatest.len(),
         )
     })
 }

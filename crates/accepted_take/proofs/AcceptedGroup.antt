@@ -2,14 +2,13 @@
 use mathlib.Core.Bool.{Bool, true, false}
 use mathlib.Core.List.{List}
 use mathlib.Core.Path.{◌≡◌, sym, ap, ◌∙◌}
-use Prim.Native.Nat.{ℕ, ◌+◌, ◌*◌, ◌-◌, ◌≤◌}
-use native.Mathlib.Nat.{add-mul, mul-le-mul, mul-le-mul_right}
+use Prim.Native.Nat.{ℕ, ◌+◌, ◌*◌, ◌≤◌}
+use native.Mathlib.Nat.{add-mul, mul-le-mul_right}
 use native.Mathlib.Omega.{arith}
 use borrow.Author.Tests.{eqb-true, eqb-false, not-true}
-use lib.ListN.{length, take, drop}
+use lib.ListN.{length}
 use lib.Seq.{sets}
 use Rattle.arithmetic.specs.Places.{all_of}
-use Rattle.arithmetic.proofs.SetsLaws.{sets_part}
 use Rattle.arithmetic.proofs.Test.{and_true}
 use Rattle.refusal.proofs.RangeBounds.{range_bounds}
 use Rattle.refusal.proofs.Then.{then_none}
@@ -20,27 +19,22 @@ use Rattle.placement.specs.Survey.{Surveyed, survey_of}
 use Rattle.placement.proofs.SurveyLimits.{surveyed_of}
 use Rattle.tally.specs.LentSums.{Sums}
 use Rattle.tally.specs.Tally.{added_sums}
-use Rattle.extremes.specs.LentExtremes.{Extremes}
-use Rattle.extremes.specs.Extremes.{compared}
-use Rattle.extremes.specs.CompareRoom.{Comparable}
 use Rattle.scan.specs.declared.head.ScanHead.{ScanHead}
 use Rattle.scan.specs.LentLists.{Lists}
 use Rattle.scan.specs.Rays.{regular_rays}
 use Rattle.scan.specs.Scan.{gates_of, cells_of}
 use Rattle.scan.specs.ScanRefusal.{centres_accepted, quality_accepted}
 use Rattle.scan.proofs.AcceptedScan.{accepted_numbers}
-use Rattle.scan.proofs.RayLaws.{gates_length, regular_gates}
 use Rattle.scan_ledger.specs.LedgerRoom.{RaysSpan, surveyed_gates}
 use Rattle.scan_ledger.specs.ScanLedger.{gates_told}
 use Rattle.scan_ledger.proofs.AcceptedLedger.{centres_most, accepted_gates}
 use Rattle.ray_sums.specs.RaySums.{AddsAll}
 use Rattle.group_sums.specs.GroupRoom.{GroupAddable}
-use Rattle.group_sums.proofs.RayOfGroup.{part_of}
-use Rattle.sweep_checks.specs.SweepLengths.{sums_accepted, tally_accepted, group_accepted}
+use Rattle.sweep_checks.specs.SweepLengths.{sums_accepted, group_accepted}
 use Rattle.sweep_checks.specs.SweepNumbers.{take_number}
 use Rattle.sweep_checks.proofs.PassedState.{passed_state}
 use Rattle.accepted_take.specs.RayGroup.{RayGroup}
-use Rattle.accepted_take.specs.TakenLists.{group_lengths, sum_lengths, tally_lengths, group_ledger, group_marks, taken_lists, take_checks, TakesGroup}
+use Rattle.accepted_take.specs.TakenLists.{group_lengths, sum_lengths, group_ledger, group_marks, taken_lists, take_checks, TakesGroup}
 
 -- ---- the lengths
 
@@ -63,23 +57,6 @@ accepted_sums head sums e =
       weighted_sums_length = eqb-true _ _ third.1;
     }
 
--- all lists of a tally that have a number for each cell
-pub record AcceptedCells (head : ScanHead) (sums : Sums) (extremes : Extremes) : Type 0 where
-  pub sums_pass : AcceptedSums head sums
-  pub least_length : length extremes.least ≡ cells_of head
-  pub greatest_length : length extremes.greatest ≡ cells_of head
-
-pub accepted_cells : (head : ScanHead) (sums : Sums) (extremes : Extremes) → tally_accepted head (tally_lengths sums extremes) ≡ true → AcceptedCells head sums extremes
-unfolding tally_accepted
-accepted_cells head sums extremes e =
-    let first = and_true _ _ e in
-    let second = and_true _ _ first.1 in
-    record {
-      sums_pass = accepted_sums head sums first.0;
-      least_length = eqb-true _ _ second.0;
-      greatest_length = eqb-true _ _ second.1;
-    }
-
 -- ---- a group that is not refused, with the lists that are lent for it
 
 pub record AcceptedGroup (head : ScanHead) (closed : Bool) (taken : ℕ) (group : RayGroup) (lists : Lists) : Type 0 where
@@ -96,7 +73,7 @@ pub record AcceptedGroup (head : ScanHead) (closed : Bool) (taken : ℕ) (group 
   pub qualities_length : length group.qualities ≡ length group.azimuths * head.gates
   pub ledger_length : length lists.ledger ≡ gates_of head
   pub marks_length : length lists.marks ≡ gates_of head
-  pub cells : AcceptedCells head lists.sums lists.extremes
+  pub sums : AcceptedSums head lists.sums
   pub azimuths_good : all_of azimuth_accepted group.azimuths ≡ true
   pub qualities_good : all_of quality_accepted group.qualities ≡ true
 
@@ -126,7 +103,7 @@ accepted_group head closed taken group lists e =
       qualities_length = eqb-true _ _ third.0;
       ledger_length = eqb-true _ _ fourth.0;
       marks_length = eqb-true _ _ fourth.1;
-      cells = accepted_cells head lists.sums lists.extremes lengths.1;
+      sums = accepted_sums head lists.sums lengths.1;
       azimuths_good = numbers.azimuths_accepted;
       qualities_good = numbers.qualities_accepted;
     }
@@ -144,9 +121,9 @@ module _ {head : ScanHead} {closed : Bool} {taken : ℕ} {group : RayGroup} {lis
         gates_most = omega (arith, good.gates_most);
         values_length = good.values_length ∙ gates;
         qualities_length = good.qualities_length ∙ gates;
-        quality_sums_length = good.cells.sums_pass.quality_sums_length ∙ sym good.cells.sums_pass.counts_length;
-        value_sums_length = good.cells.sums_pass.value_sums_length ∙ sym good.cells.sums_pass.counts_length;
-        weighted_sums_length = good.cells.sums_pass.weighted_sums_length ∙ sym good.cells.sums_pass.counts_length;
+        quality_sums_length = good.sums.quality_sums_length ∙ sym good.sums.counts_length;
+        value_sums_length = good.sums.value_sums_length ∙ sym good.sums.counts_length;
+        weighted_sums_length = good.sums.weighted_sums_length ∙ sym good.sums.counts_length;
         ranges = λ g h. centres_most head.gates head.first head.spacing g good.centres (omega arith);
       }
 
@@ -167,45 +144,22 @@ module _ {head : ScanHead} {closed : Bool} {taken : ℕ} {group : RayGroup} {lis
   pub told_is : (told : Placement → ℕ) (survey : Survey) (gates : ℕ) → survey ≡ survey_of head.site head.grid → gates ≡ head.gates → surveyed_gates told survey head.first head.spacing (regular_rays gates group.azimuths) ≡ gates_told told head (regular_rays head.gates group.azimuths)
   told_is told survey gates s g = rw (s, g) (accepted_gates head good.centres good.site good.grid told group.azimuths good.azimuths_good)
 
-  ledger_length : length (group_ledger head group) ≡ length group.values
-  unfolding gates_told
-  ledger_length = gates_length _ _ _ (regular_rays head.gates group.azimuths) ∙ regular_gates head.gates group.azimuths ∙ sym good.values_length
-
-  pub gates_limit : gates_of head ≤ 720000
-  unfolding gates_of
-  gates_limit = mul-le-mul good.rays_limit good.gates_most
-
-  pub group_end : taken * head.gates + length group.values ≤ gates_of head
-  group_end = omega (arith, behind, good.values_length)
-
-  -- there the ledger that was written holds the group's own
-  pub group_part : {ledger : List ℕ} → ledger ≡ sets lists.ledger (taken * head.gates) (group_ledger head group) → part_of (taken * head.gates) (taken * head.gates + length group.values) ledger ≡ group_ledger head group
-  group_part {ledger} e =
-      let start = taken * head.gates in
-      let gates : start + length group.values - start ≡ length (group_ledger head group) = omega (arith, ledger_length) in
-      ap (λ (n : ℕ). take n (drop start ledger)) gates
-      ∙ ap (λ (l : List ℕ). take (length (group_ledger head group)) (drop start l)) e
-      ∙ sets_part lists.ledger start (group_ledger head group) (omega (arith, ledger_length, group_end, good.ledger_length))
-
-  pub comparable : Comparable (group_ledger head group) group.values lists.extremes
-  comparable = record { values_length = sym ledger_length; greatest_length = good.cells.greatest_length ∙ sym good.cells.least_length }
-
   -- ---- the answer
 
   module _ {written : List ℕ} {sums : Sums} {added : Bool} (is : written ≡ group_ledger head group) (adds : AddsAll written group.values group.qualities (record { entry = lists.sums; exit = sums }) added) where
-    pub group_taken : {ledger marks : List ℕ} {extremes : Extremes} → added ≡ true → ledger ≡ sets lists.ledger (taken * head.gates) (group_ledger head group) → marks ≡ sets lists.marks (taken * head.gates) (group_marks head group) → extremes ≡ compared (group_ledger head group) group.values lists.extremes → TakesGroup head taken group (record { entry = lists; exit = record { ledger = ledger; marks = marks; sums = sums; extremes = extremes } }) true
+    pub group_taken : {ledger marks : List ℕ} → added ≡ true → ledger ≡ sets lists.ledger (taken * head.gates) (group_ledger head group) → marks ≡ sets lists.marks (taken * head.gates) (group_marks head group) → TakesGroup head taken group (record { entry = lists; exit = record { ledger = ledger; marks = marks; sums = sums } }) true
     unfolding taken_lists
-    group_taken was e m x =
+    group_taken was e m =
         let there = rw is at adds in
         let all : sums ≡ added_sums (group_ledger head group) group.values group.qualities lists.sums = rw was at there.the_sums in
         record {
           the_answer = sym was ∙ there.the_answer;
-          the_lists = λ i. record { ledger = e i; marks = m i; sums = all i; extremes = x i };
+          the_lists = λ i. record { ledger = e i; marks = m i; sums = all i };
         }
 
-    pub group_left : added ≡ false → TakesGroup head taken group (record { entry = lists; exit = record { ledger = lists.ledger; marks = lists.marks; sums = sums; extremes = lists.extremes } }) false
+    pub group_left : added ≡ false → TakesGroup head taken group (record { entry = lists; exit = record { ledger = lists.ledger; marks = lists.marks; sums = sums } }) false
     unfolding taken_lists
     group_left was =
         let there = rw is at adds in
         let same : sums ≡ lists.sums = rw was at there.the_sums in
-        record { the_answer = sym was ∙ there.the_answer; the_lists = λ i. record { ledger = lists.ledger; marks = lists.marks; sums = same i; extremes = lists.extremes } }
+        record { the_answer = sym was ∙ there.the_answer; the_lists = λ i. record { ledger = lists.ledger; marks = lists.marks; sums = same i } }

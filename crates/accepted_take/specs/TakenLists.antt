@@ -1,4 +1,4 @@
--- Document 02, T-01, T-02 and T-06: a group's refusal, and what the lists hold once its rays are taken. Assumes nothing.
+-- Document 02, T-01 and T-02: a group's refusal, and what the lists hold once its rays are taken. Assumes nothing.
 use Rattle.std.specs.Prelude.{Bool, cond, List, [], ◌∷◌, ◌≡◌, ℕ, ◌*◌, length}
 use denote.Triple.Both.{Both}
 use Rattle.std.proofs.lemmas.List.Edits.{sets}
@@ -8,15 +8,12 @@ use Rattle.limits.specs.Accepted.{azimuth_accepted}
 use Rattle.tally.specs.LentSums.{Sums}
 use Rattle.tally.specs.Tally.{added_sums}
 use Rattle.tally.specs.Width.{fit_widths}
-use Rattle.extremes.specs.LentExtremes.{Extremes}
-use Rattle.extremes.specs.Extremes.{compared}
 use Rattle.scan.specs.declared.head.ScanHead.{ScanHead}
 use Rattle.scan.specs.LentLists.{Lists}
 use Rattle.scan.specs.Rays.{regular_rays}
 use Rattle.scan.specs.ScanRefusal.{quality_accepted}
 use Rattle.scan_ledger.specs.ScanLedger.{ledger_of, marks_of}
 use Rattle.sweep_checks.specs.declared.lengths.SumLengths.{SumLengths}
-use Rattle.sweep_checks.specs.declared.lengths.TallyLengths.{TallyLengths}
 use Rattle.sweep_checks.specs.declared.lengths.GroupLengths.{GroupLengths}
 use Rattle.sweep_checks.specs.SweepNumbers.{take_number}
 use Rattle.accepted_take.specs.RayGroup.{RayGroup}
@@ -27,13 +24,6 @@ sum_lengths sums = record {
   quality_sums = length sums.quality_sums;
   value_sums = length sums.value_sums;
   weighted_sums = length sums.weighted_sums;
-}
-
-abbrev pub tally_lengths : Sums → Extremes → TallyLengths
-tally_lengths sums extremes = record {
-  sums = sum_lengths sums;
-  least = length extremes.least;
-  greatest = length extremes.greatest;
 }
 
 abbrev pub group_lengths : RayGroup → Lists → GroupLengths
@@ -52,20 +42,18 @@ group_ledger head group = ledger_of head (regular_rays head.gates group.azimuths
 abbrev pub group_marks : ScanHead → RayGroup → List ℕ
 group_marks head group = marks_of head (regular_rays head.gates group.azimuths)
 
--- entries and marks of just these rays, behind those that were taken before; the sums with just these gates added, least and greatest with just
--- these gates compared
+-- entries and marks of just these rays, behind those that were taken before; the sums with just these gates added
 unfoldable pub taken_lists : ScanHead → ℕ → RayGroup → Lists → Lists
 taken_lists head taken group lists = record {
   ledger = sets lists.ledger (taken * head.gates) (group_ledger head group);
   marks = sets lists.marks (taken * head.gates) (group_marks head group);
   sums = added_sums (group_ledger head group) group.values group.qualities lists.sums;
-  extremes = compared (group_ledger head group) group.values lists.extremes;
 }
 
 -- 19, 17, 1 to 8
 unfoldable pub take_checks : ScanHead → Bool → ℕ → RayGroup → Lists → ℕ
 take_checks head closed taken group lists =
-    take_number head closed taken (group_lengths group lists) (tally_lengths lists.sums lists.extremes) (all_of azimuth_accepted group.azimuths) (all_of quality_accepted group.qualities)
+    take_number head closed taken (group_lengths group lists) (sum_lengths lists.sums) (all_of azimuth_accepted group.azimuths) (all_of quality_accepted group.qualities)
 
 -- "last, 31 for a ray by which a count or quality sum would pass 32 bits or a value sum 64", either of the two
 unfoldable pub take_refusal : ScanHead → Bool → ℕ → RayGroup → Lists → ℕ

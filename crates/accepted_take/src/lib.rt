@@ -1,17 +1,15 @@
-// A group of rays, of accepted numbers and lists: the sums, then ledger and marks, then least and greatest.
+// A group of rays, of accepted numbers and lists: the sums, then ledger and marks.
 ghost use Rattle.std.specs.Prelude.{false, ◌≡◌};
 ghost use Rattle.scan.specs.LentLists.{lists_held, lent_lists};
 ghost use Rattle.accepted_take.specs.RayGroup.{group_held};
 ghost use Rattle.accepted_take.specs.TakenLists.{take_checks, TakesGroup};
 
-use extremes::compare_gates;
 use group_sums::add_rays;
 use scan::ScanHead;
 use scan_ledger::scan_ledger;
 
-// Nothing but the sums may be written before the group is known to fit, so each ray's entries are worked out into an array first, and again for the
-// ledger, by which least and greatest are compared. Says whether the group fits. For our own crates: they have tested the state, which is not
-// closed, the rays and the lengths of the lists.
+// Ledger and marks may not be written before the group is known to fit, so each ray's entries are worked out into an array first, and again for the
+// ledger. Says whether the group fits. For our own crates: they have tested the state, which is not closed, the rays and the lengths of the lists.
 pub fn accepted_take(
     head: ScanHead,
     taken: u32,
@@ -24,11 +22,9 @@ pub fn accepted_take(
     quality_sums: &mut [u32],
     value_sums: &mut [u64],
     weighted_sums: &mut [u64],
-    least: &mut [u16],
-    greatest: &mut [u16],
 ) -> bool
-    requires { take_checks head false taken (group_held azimuths values qualities) (lists_held ledger marks counts quality_sums value_sums weighted_sums least greatest) ≡ 0 }
-    ensures { TakesGroup head taken (group_held azimuths.entry values.entry qualities.entry) (lent_lists ledger marks counts quality_sums value_sums weighted_sums least greatest) result }
+    requires { take_checks head false taken (group_held azimuths values qualities) (lists_held ledger marks counts quality_sums value_sums weighted_sums) ≡ 0 }
+    ensures { TakesGroup head taken (group_held azimuths.entry values.entry qualities.entry) (lent_lists ledger marks counts quality_sums value_sums weighted_sums) result }
 {
     let site = head.site;
     let grid = head.grid;
@@ -50,7 +46,6 @@ pub fn accepted_take(
     ) {
         return false;
     }
-    let start = (taken as usize) * gates;
     scan_ledger(
         survey,
         head.gates,
@@ -59,9 +54,7 @@ pub fn accepted_take(
         azimuths,
         ledger,
         marks,
-        start,
+        (taken as usize) * gates,
     );
-    let end = start + values.len();
-    compare_gates(&ledger[start..end], values, least, greatest);
     true
 }

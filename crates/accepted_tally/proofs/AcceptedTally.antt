@@ -22,10 +22,6 @@ use Rattle.tally.specs.Width.{fit_widths}
 use Rattle.tally.proofs.AllAdded.{all_added}
 use Rattle.tally.proofs.TallyWidth.{GatesMost, from_nothing_fits}
 use Rattle.tally.proofs.TallyFromNothing.{from_nothing}
-use Rattle.extremes.specs.LentExtremes.{Extremes}
-use Rattle.extremes.specs.Extremes.{emptied, compared}
-use Rattle.extremes.specs.CompareRoom.{Comparable}
-use Rattle.extremes.proofs.ExtremesFromNothing.{extremes_from_nothing}
 use Rattle.scan.specs.Rays.{regular_rays}
 use Rattle.scan.specs.LentLists.{Lists}
 use Rattle.scan.specs.Scan.{Scan, rays_of, gates_of}
@@ -121,16 +117,3 @@ module _ {scan : Scan} {lists : Lists} (good : AcceptedScan scan lists) where
         all_added adds (ap (λ (s : Sums). fit_widths (added_sums written scan.values scan.qualities s)) from ∙ from_nothing_fits most lists.sums)
         ∙ ap (added_sums written scan.values scan.qualities) from
         ∙ rw ledger-written (from_nothing _ _ _ lists.sums lengths.counts_length lengths.quality_sums_length lengths.value_sums_length lengths.weighted_sums_length)
-
-    pub comparable : Comparable written scan.values (emptied lists.extremes)
-    unfolding emptied
-    comparable = record {
-      values_length = good.lengths.values_length ∙ sym written_length;
-      greatest_length = simp length-replicate (good.lengths.greatest_length ∙ sym good.lengths.least_length);
-    }
-
-    pub extremes_are : {extremes : Both Extremes Extremes} → extremes.entry ≡ emptied lists.extremes → extremes.exit ≡ compared written scan.values extremes.entry → extremes.exit ≡ (tallied_lists scan).extremes
-    unfolding tallied_lists
-    extremes_are from are =
-        are ∙ ap (compared written scan.values) from
-        ∙ rw ledger-written (extremes_from_nothing _ _ lists.extremes good.lengths.least_length good.lengths.greatest_length)

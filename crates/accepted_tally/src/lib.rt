@@ -1,11 +1,10 @@
-// The tally of a scan, of accepted numbers and lists: ledger and marks, then the sums, then least and greatest.
+// The tally of a scan, of accepted numbers and lists: ledger and marks, then the sums.
 ghost use Rattle.std.specs.Prelude.{◌≡◌};
 ghost use Rattle.scan.specs.LentLists.{lists_held, lent_lists};
 ghost use Rattle.scan.specs.Scan.{scan_held};
 ghost use Rattle.scan.specs.ScanRefusal.{refusal_for};
 ghost use Rattle.accepted_tally.specs.TalliedLists.{tallied_lists};
 
-use extremes::{clear_extremes, compare_gates};
 use scan::ScanHead;
 use scan_ledger::scan_ledger;
 use tally::{add_gates, clear_sums};
@@ -22,11 +21,9 @@ pub fn accepted_tally(
     quality_sums: &mut [u32],
     value_sums: &mut [u64],
     weighted_sums: &mut [u64],
-    least: &mut [u16],
-    greatest: &mut [u16],
 )
-    requires { refusal_for (scan_held head azimuths values qualities) (lists_held ledger marks counts quality_sums value_sums weighted_sums least greatest) ≡ 0 }
-    ensures { (lent_lists ledger marks counts quality_sums value_sums weighted_sums least greatest).exit ≡ tallied_lists (scan_held head azimuths.entry values.entry qualities.entry) }
+    requires { refusal_for (scan_held head azimuths values qualities) (lists_held ledger marks counts quality_sums value_sums weighted_sums) ≡ 0 }
+    ensures { (lent_lists ledger marks counts quality_sums value_sums weighted_sums).exit ≡ tallied_lists (scan_held head azimuths.entry values.entry qualities.entry) }
 {
     let site = head.site;
     let grid = head.grid;
@@ -51,6 +48,4 @@ pub fn accepted_tally(
         value_sums,
         weighted_sums,
     );
-    clear_extremes(least, greatest);
-    compare_gates(ledger, values, least, greatest);
 }

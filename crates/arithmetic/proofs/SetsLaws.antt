@@ -1,11 +1,11 @@
 -- Lists stored one behind the other in a buffer. Assumes nothing.
-use mathlib.Core.Path.{◌≡◌, refl, ap, ◌∙◌}
-use mathlib.Core.List.{List, [], ◌∷◌, ◌++◌, append-nil, append_assoc}
+use mathlib.Core.Path.{◌≡◌, ap, ◌∙◌}
+use mathlib.Core.List.{List, [], ◌∷◌, ◌++◌, append-nil}
 use Prim.Native.Nat.{ℕ, suc, ◌+◌, ◌<◌, ◌≤◌}
 use native.Mathlib.Nat.{zero-add}
 use native.Mathlib.Omega.{arith}
-use lib.ListN.{length, set, get_or, take, drop, drop_of_length-le, get_or-append}
-use lib.Seq.{sets, sets-eq, take_at, drop_at, length-take-le}
+use lib.ListN.{length, set, get_or, drop, drop_of_length-le, get_or-append}
+use lib.Seq.{sets, sets-eq}
 
 -- a second list right behind the first
 pub sets_append : (l : List ℕ) (i : ℕ) (xs ys : List ℕ) → sets (sets l i xs) (i + length xs) ys ≡ sets l i (xs ++ ys)
@@ -27,12 +27,6 @@ sets_start_at l xs k h i = rw (sets_start l xs h) (get_or-append xs (drop (lengt
 -- a list stored over the whole of another
 pub sets_whole : (l xs : List ℕ) → length xs ≡ length l → sets l 0 xs ≡ xs
 sets_whole l xs e = sets_start l xs (omega arith) ∙ rw (drop_of_length-le l {i = length xs} (omega arith), append-nil)
-
--- the part where a list was stored is that list
-pub sets_part : (l : List ℕ) (i : ℕ) (xs : List ℕ) → i + length xs ≤ length l → take (length xs) (drop i (sets l i xs)) ≡ xs
-sets_part l i xs h =
-    rw (sets-eq xs l i h, append_assoc (take i l) xs (drop (i + length xs) l), drop_at (take i l) (xs ++ drop (i + length xs) l) i (length-take-le i l (omega arith)))
-    (take_at xs (drop (i + length xs) l) (length xs) refl)
 
 -- a second piece right behind the first
 pub sets_then : (a : List ℕ) (i : ℕ) (xs ys : List ℕ) {b c : List ℕ} {j : ℕ} → b ≡ sets a i xs → j ≡ i + length xs → c ≡ sets b j ys → c ≡ sets a i (xs ++ ys)

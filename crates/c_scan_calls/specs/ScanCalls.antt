@@ -21,10 +21,10 @@ PlacesGate site grid azimuth range cell x y mark answer =
     let on = grid_of (grid_at grid.entry.now 0) in
     Answers (gate_refusal at on (unsigned32 azimuth) (unsigned32 range)) (placed_gate at on (unsigned32 azimuth) (unsigned32 range)) (lent_gate cell x y mark) answer
 
-abbrev pub TalliesScan : LentStruct → Lent → Lent → Lent → Lent → Lent → Lent → Lent → Lent → Lent → Lent → Lent → ℕ → Type 0
-TalliesScan scan azimuths values qualities ledger marks counts quality_sums value_sums weighted_sums least greatest answer =
+abbrev pub TalliesScan : LentStruct → Lent → Lent → Lent → Lent → Lent → Lent → Lent → Lent → Lent → ℕ → Type 0
+TalliesScan scan azimuths values qualities ledger marks counts quality_sums value_sums weighted_sums answer =
     let given = scan_held (head_of scan.entry.now) azimuths.entry values.entry qualities.entry in
-    let lists = lent_lists ledger marks counts quality_sums value_sums weighted_sums least greatest in
+    let lists = lent_lists ledger marks counts quality_sums value_sums weighted_sums in
     Answers (refusal_for given lists.entry) (tallied_lists given) lists answer
 
 abbrev pub PublishesSums : ℤ → Lent → Lent → Lent → Lent → Lent → Lent → ℕ → Type 0

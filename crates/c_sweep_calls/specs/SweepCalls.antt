@@ -1,29 +1,29 @@
 -- What is answered and left of what C lends, for each operation of a sweep: each over a contract's parameters. Assumes nothing.
 use Rattle.std.specs.Prelude.{ℕ}
 use Rattle.refusal.specs.Answer.{Answers}
-use Rattle.tally.specs.LentSums.{Lent, sums_held, lent_cells}
+use Rattle.tally.specs.LentSums.{Lent, sums_held, lent_sums, lent_cells}
+use Rattle.tally.specs.Tally.{cleared}
 use Rattle.publish.specs.Publish.{published_cells}
 use Rattle.scan.specs.LentLists.{lent_lists}
 use Rattle.accepted_take.specs.RayGroup.{group_held}
 use Rattle.accepted_take.specs.TakenLists.{taken_lists}
-use Rattle.sweep.specs.CellLists.{lent_cell_lists, of_no_gates}
 use Rattle.sweep.specs.SweepOperations.{open_refusal, opened, rays_refusal, counted, close_refusal, ended}
 use Rattle.c_structs.specs.Structs.{head_of}
 use Rattle.c_answers.specs.LentNumbers.{LentStruct}
 use Rattle.c_sweep.specs.SweepStruct.{sweep_of, sweep_numbers}
 use Rattle.c_sweep.specs.LentSweep.{with_sweep}
 
-abbrev pub OpensSweep : LentStruct → Lent → Lent → Lent → Lent → Lent → Lent → LentStruct → ℕ → Type 0
-OpensSweep scan counts quality_sums value_sums weighted_sums least greatest sweep answer =
+abbrev pub OpensSweep : LentStruct → Lent → Lent → Lent → Lent → LentStruct → ℕ → Type 0
+OpensSweep scan counts quality_sums value_sums weighted_sums sweep answer =
     let head = head_of scan.entry.now in
-    let lent = with_sweep sweep (lent_cell_lists counts quality_sums value_sums weighted_sums least greatest) in
-    Answers (open_refusal head lent.entry.lists) (record { sweep = sweep_numbers (opened head); lists = of_no_gates lent.entry.lists }) lent answer
+    let lent = with_sweep sweep (lent_sums counts quality_sums value_sums weighted_sums) in
+    Answers (open_refusal head lent.entry.lists) (record { sweep = sweep_numbers (opened head); lists = cleared lent.entry.lists }) lent answer
 
-abbrev pub TakesRays : LentStruct → Lent → Lent → Lent → Lent → Lent → Lent → Lent → Lent → Lent → Lent → Lent → ℕ → Type 0
-TakesRays sweep azimuths values qualities ledger marks counts quality_sums value_sums weighted_sums least greatest answer =
+abbrev pub TakesRays : LentStruct → Lent → Lent → Lent → Lent → Lent → Lent → Lent → Lent → Lent → ℕ → Type 0
+TakesRays sweep azimuths values qualities ledger marks counts quality_sums value_sums weighted_sums answer =
     let state = sweep_of sweep.entry.now in
     let group = group_held azimuths.entry values.entry qualities.entry in
-    let lent = with_sweep sweep (lent_lists ledger marks counts quality_sums value_sums weighted_sums least greatest) in
+    let lent = with_sweep sweep (lent_lists ledger marks counts quality_sums value_sums weighted_sums) in
     Answers
     (rays_refusal state group lent.entry.lists)
     (record { sweep = sweep_numbers (counted state group); lists = taken_lists state.head state.taken group lent.entry.lists })

@@ -12,11 +12,9 @@ pub fn answer_open(
     quality_sums: &mut [u32],
     value_sums: &mut [u64],
     weighted_sums: &mut [u64],
-    least: &mut [u16],
-    greatest: &mut [u16],
     sweep: &mut [i64; 15],
 ) -> u32
-    ensures { OpensSweep scan counts quality_sums value_sums weighted_sums least greatest sweep result }
+    ensures { OpensSweep scan counts quality_sums value_sums weighted_sums sweep result }
 {
     answer_sweep(
         Sweep::open(
@@ -25,8 +23,6 @@ pub fn answer_open(
             quality_sums,
             value_sums,
             weighted_sums,
-            least,
-            greatest,
         ),
         sweep,
     )
@@ -43,10 +39,8 @@ pub fn answer_take(
     quality_sums: &mut [u32],
     value_sums: &mut [u64],
     weighted_sums: &mut [u64],
-    least: &mut [u16],
-    greatest: &mut [u16],
 ) -> u32
-    ensures { TakesRays sweep azimuths values qualities ledger marks counts quality_sums value_sums weighted_sums least greatest result }
+    ensures { TakesRays sweep azimuths values qualities ledger marks counts quality_sums value_sums weighted_sums result }
 {
     let state = sweep_of(sweep);
     answer_sweep(
@@ -60,8 +54,6 @@ pub fn answer_take(
             quality_sums,
             value_sums,
             weighted_sums,
-            least,
-            greatest,
         ),
         sweep,
     )

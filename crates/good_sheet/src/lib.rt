@@ -25,8 +25,6 @@ pub fn good_sheet(bytes: &[u8], head: ScanHead, page: &mut [u8; 120000]) -> usiz
     let mut quality_sums = [0u32; 1024];
     let mut value_sums = [0u64; 1024];
     let mut weighted_sums = [0u64; 1024];
-    let mut least = [0u16; 1024];
-    let mut greatest = [0u16; 1024];
     let mut means = [0u16; 1024];
     let mut cell_qualities = [0u8; 1024];
     cells_text(
@@ -41,8 +39,6 @@ pub fn good_sheet(bytes: &[u8], head: ScanHead, page: &mut [u8; 120000]) -> usiz
         &mut quality_sums[..cells],
         &mut value_sums[..cells],
         &mut weighted_sums[..cells],
-        &mut least[..cells],
-        &mut greatest[..cells],
         &mut means[..cells],
         &mut cell_qualities[..cells],
         page,

@@ -65,7 +65,7 @@ module _ (weighting : Weighting) (ledger values qualities : List ℕ) (cell : �
 
   -- the mean is a weighted one
   weight : ℕ → ℕ
-  weight k = weight_in weighting (contributes ledger values cell k) (get_or qualities k 0)
+  weight k = weight_in weighting (contributes ledger values qualities cell k) (get_or qualities k 0)
 
   echo : ℕ → ℕ
   echo k = echo_of (get_or values k 0)
@@ -74,13 +74,13 @@ module _ (weighting : Weighting) (ledger values qualities : List ℕ) (cell : �
   unfolding cell_divisor weight weight_of weight_in divisor_of count_of quality_sum_of sum_over
   divisor_is = go weighting
     where
-      go : (w : Weighting) → divisor_of w (count_of ledger values qualities cell) (quality_sum_of ledger values qualities cell) ≡ sum_to (λ k. weight_in w (contributes ledger values cell k) (get_or qualities k 0)) (length ledger)
+      go : (w : Weighting) → divisor_of w (count_of ledger values qualities cell) (quality_sum_of ledger values qualities cell) ≡ sum_to (λ k. weight_in w (contributes ledger values qualities cell k) (get_or qualities k 0)) (length ledger)
       go Plain = refl
       go ByQuality = refl
 
   value_sum_is : cell_value_sum weighting ledger values qualities cell ≡ sum_to (λ k. echo k * weight k) (length ledger)
   unfolding cell_value_sum sum_over weight echo
-  value_sum_is = sum_ext _ _ (length ledger) (λ k h. weighed_is weighting (contributes ledger values cell k) (get_or values k 0) (get_or qualities k 0))
+  value_sum_is = sum_ext _ _ (length ledger) (λ k h. weighed_is weighting (contributes ledger values qualities cell k) (get_or values k 0) (get_or qualities k 0))
 
   mean_is : (divisor_here ≡ 0 → ⊥) → mean_here ≡ sum_to (λ k. echo k * weight k) (length ledger) / sum_to weight (length ledger)
   unfolding cell_mean
@@ -89,7 +89,7 @@ module _ (weighting : Weighting) (ledger values qualities : List ℕ) (cell : �
   has_part : (k : ℕ) → k < length ledger → (weight k ≡ 0 → ⊥) → PartHere k
   unfolding weight
   has_part k h ne =
-      let part = weight_needs_part weighting (contributes ledger values cell k) (get_or qualities k 0) ne in
+      let part = weight_needs_part weighting (contributes ledger values qualities cell k) (get_or qualities k 0) ne in
       record { is_gate = h; is_in_cell = part.0; has_quality = part.1 }
 
   -- "A mean that isn't 65,535 lies between the least and greatest contributing values, those with quality 0 left out when weighting by quality":

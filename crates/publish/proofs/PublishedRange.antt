@@ -45,7 +45,7 @@ quotient_most qualitySum count h = go (eqb count 0)
 -- ---- a cell of a tally
 
 module _ (ledger values qualities : List ℕ) (cell : ℕ) where
-  is_measured_lem : (k : ℕ) → contributes ledger values cell k ≡ true → is_measured (get_or values k 0) ≡ true
+  is_measured_lem : (k : ℕ) → contributes ledger values qualities cell k ≡ true → is_measured (get_or values k 0) ≡ true
   unfolding contributes
   is_measured_lem k e = (and_true (eqb (get_or ledger k 0) cell) (is_measured (get_or values k 0)) e).1
 
@@ -63,7 +63,7 @@ module _ (ledger values qualities : List ℕ) (cell : ℕ) where
   pub quality_in_range : (weighting : Weighting) → ((k : ℕ) → get_or qualities k 0 ≤ 100) → cell_quality weighting ledger values qualities cell ≤ 100
   unfolding cell_quality quality_sum_of count_of sum_over
   quality_in_range weighting small =
-      quotient_most _ _ (sum_scale 100 _ _ (length ledger) (λ k h. quality_share (contributes ledger values cell k) (get_or qualities k 0) (small k)))
+      quotient_most _ _ (sum_scale 100 _ _ (length ledger) (λ k h. quality_share (contributes ledger values qualities cell k) (get_or qualities k 0) (small k)))
 
   -- so the published quality is that quotient
   pub quality_published : (weighting : Weighting) → ((k : ℕ) → get_or qualities k 0 ≤ 100) → published_quality (quality_sum_of ledger values qualities cell) (count_of ledger values qualities cell) ≡ cell_quality weighting ledger values qualities cell

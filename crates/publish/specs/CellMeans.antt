@@ -34,7 +34,7 @@ module _ (weighting : Weighting) (ledger values qualities : List ℕ) where
   -- gate k has a part in the mean of a cell: it contributes to the cell, and, by quality, its quality is not 0
   pub record HasPart (cell k : ℕ) : Type 0 where
     pub is_gate : k < length ledger
-    pub is_in_cell : contributes ledger values cell k ≡ true
+    pub is_in_cell : contributes ledger values qualities cell k ≡ true
     pub has_quality : weighting ≡ ByQuality → get_or qualities k 0 ≡ 0 → ⊥
 
   -- of so many cells

@@ -24,13 +24,11 @@ pub fn cells_text(
     quality_sums: &mut [u32],
     value_sums: &mut [u64],
     weighted_sums: &mut [u64],
-    least: &mut [u16],
-    greatest: &mut [u16],
     means: &mut [u16],
     cell_qualities: &mut [u8],
     page: &mut [u8; 120000],
 ) -> usize
-    requires { Sized bytes.now head × (lists_exact (scan_held head azimuths values qualities) (lists_held ledger marks counts quality_sums value_sums weighted_sums least greatest) ≡ true) × CellRoom head (cells_held means cell_qualities) }
+    requires { Sized bytes.now head × (lists_exact (scan_held head azimuths values qualities) (lists_held ledger marks counts quality_sums value_sums weighted_sums) ≡ true) × CellRoom head (cells_held means cell_qualities) }
     ensures upper_bound { result ≤ 120000 }
     ensures stored { Stored page.old 0 (good_sheet bytes.now) result page.new }
 {
@@ -46,8 +44,6 @@ pub fn cells_text(
         quality_sums,
         value_sums,
         weighted_sums,
-        least,
-        greatest,
     );
     let weighting = head.weighting;
     publish::publish(

@@ -49,8 +49,6 @@ pub record AcceptedLengths (head : ScanHead) (given : Lengths) : Type 0 where
   pub quality_sums_length : given.quality_sums ≡ cells_of head
   pub value_sums_length : given.value_sums ≡ cells_of head
   pub weighted_sums_length : given.weighted_sums ≡ cells_of head
-  pub least_length : given.least ≡ cells_of head
-  pub greatest_length : given.greatest ≡ cells_of head
 
 -- the last of several tests, and those before it
 last_equal : (before : Bool) (a b : ℕ) → (before && eqb a b) ≡ true → (before ≡ true) × (a ≡ b)
@@ -89,9 +87,7 @@ by_last_list head azimuths values qualities a v = simp (eq-eqb _ _ a, eq-eqb _ _
 pub accepted_lengths : (head : ScanHead) (given : Lengths) → lengths_accepted head given ≡ true → AcceptedLengths head given
 unfolding lengths_accepted
 accepted_lengths head given e =
-    let greatest = last_equal _ given.greatest (cells_of head) e in
-    let least = last_equal _ given.least (cells_of head) greatest.0 in
-    let weighted-sums = last_equal _ given.weighted_sums (cells_of head) least.0 in
+    let weighted-sums = last_equal _ given.weighted_sums (cells_of head) e in
     let value-sums = last_equal _ given.value_sums (cells_of head) weighted-sums.0 in
     let quality-sums = last_equal _ given.quality_sums (cells_of head) value-sums.0 in
     let counts = last_equal _ given.counts (cells_of head) quality-sums.0 in
@@ -108,8 +104,6 @@ accepted_lengths head given e =
       quality_sums_length = quality-sums.1;
       value_sums_length = value-sums.1;
       weighted_sums_length = weighted-sums.1;
-      least_length = least.1;
-      greatest_length = greatest.1;
     }
 
 pub refused_lengths : (head : ScanHead) (given : Lengths) → (AcceptedLengths head given → ⊥) → false ≡ lengths_accepted head given
@@ -124,16 +118,16 @@ unfolding lengths_accepted
 refused_by_lists head given e = simp e
 
 -- where the other lengths are right, the last one decides
-pub by_last_length : (head : ScanHead) (given : Lengths) → lists_accepted head given.azimuths given.values given.qualities ≡ true → given.ledger ≡ gates_of head → given.marks ≡ gates_of head → given.counts ≡ cells_of head → given.quality_sums ≡ cells_of head → given.value_sums ≡ cells_of head → given.weighted_sums ≡ cells_of head → given.least ≡ cells_of head → eqb given.greatest (cells_of head) ≡ lengths_accepted head given
+pub by_last_length : (head : ScanHead) (given : Lengths) → lists_accepted head given.azimuths given.values given.qualities ≡ true → given.ledger ≡ gates_of head → given.marks ≡ gates_of head → given.counts ≡ cells_of head → given.quality_sums ≡ cells_of head → given.value_sums ≡ cells_of head → eqb given.weighted_sums (cells_of head) ≡ lengths_accepted head given
 unfolding lengths_accepted
-by_last_length head given lists ledger marks counts quality-sums value-sums weighted-sums least =
-    simp (lists, eq-eqb _ _ ledger, eq-eqb _ _ marks, eq-eqb _ _ counts, eq-eqb _ _ quality-sums, eq-eqb _ _ value-sums, eq-eqb _ _ weighted-sums, eq-eqb _ _ least)
+by_last_length head given lists ledger marks counts quality-sums value-sums =
+    simp (lists, eq-eqb _ _ ledger, eq-eqb _ _ marks, eq-eqb _ _ counts, eq-eqb _ _ quality-sums, eq-eqb _ _ value-sums)
 
 pub lengths_exact : (head : ScanHead) (given : Lengths) → AcceptedLengths head given → lengths_accepted head given ≡ true
 lengths_exact head given known =
     let lists = sym (by_last_list head given.azimuths given.values given.qualities known.azimuths_length known.values_length) ∙ eq-eqb _ _ known.qualities_length in
-    sym (by_last_length head given lists known.ledger_length known.marks_length known.counts_length known.quality_sums_length known.value_sums_length known.weighted_sums_length known.least_length)
-    ∙ eq-eqb _ _ known.greatest_length
+    sym (by_last_length head given lists known.ledger_length known.marks_length known.counts_length known.quality_sums_length known.value_sums_length)
+    ∙ eq-eqb _ _ known.weighted_sums_length
 
 -- lent lists that are exact for one scan are so for another with the same head, whose own lists are exact
 pub exact_for_another : (scan other : Scan) (lists : Lists) → scan.head ≡ other.head → AcceptedLists other.head (length other.azimuths) (length other.values) (length other.qualities) → lists_exact scan lists ≡ true → lists_exact other lists ≡ true
@@ -152,8 +146,6 @@ exact_for_another scan other lists same own exact =
       quality_sums_length = known.quality_sums_length ∙ cells;
       value_sums_length = known.value_sums_length ∙ cells;
       weighted_sums_length = known.weighted_sums_length ∙ cells;
-      least_length = known.least_length ∙ cells;
-      greatest_length = known.greatest_length ∙ cells;
     })
 
 -- what a scan without a refusal has, its lists taken as tested

@@ -2,25 +2,22 @@
 use Rattle.std.specs.Prelude.{List, ℕ}
 use denote.Triple.Both.{Both}
 use Rattle.tally.specs.LentSums.{Sums, Slice, sums_held, Lent}
-use Rattle.extremes.specs.LentExtremes.{Extremes, extremes_held}
 
 -- ledger and marks have a number for each gate
 pub record Lists : Type 0 where
   pub ledger : List ℕ
   pub marks : List ℕ
   pub sums : Sums
-  pub extremes : Extremes
 
-abbrev pub lists_held : Slice → Slice → Slice → Slice → Slice → Slice → Slice → Slice → Lists
-lists_held ledger marks counts quality_sums value_sums weighted_sums least greatest = record {
+abbrev pub lists_held : Slice → Slice → Slice → Slice → Slice → Slice → Lists
+lists_held ledger marks counts quality_sums value_sums weighted_sums = record {
   ledger = ledger.now;
   marks = marks.now;
   sums = sums_held counts quality_sums value_sums weighted_sums;
-  extremes = extremes_held least greatest;
 }
 
-abbrev pub lent_lists : Lent → Lent → Lent → Lent → Lent → Lent → Lent → Lent → Both Lists Lists
-lent_lists ledger marks counts quality_sums value_sums weighted_sums least greatest = record {
-  entry = lists_held ledger.entry marks.entry counts.entry quality_sums.entry value_sums.entry weighted_sums.entry least.entry greatest.entry;
-  exit = lists_held ledger.exit marks.exit counts.exit quality_sums.exit value_sums.exit weighted_sums.exit least.exit greatest.exit;
+abbrev pub lent_lists : Lent → Lent → Lent → Lent → Lent → Lent → Both Lists Lists
+lent_lists ledger marks counts quality_sums value_sums weighted_sums = record {
+  entry = lists_held ledger.entry marks.entry counts.entry quality_sums.entry value_sums.entry weighted_sums.entry;
+  exit = lists_held ledger.exit marks.exit counts.exit quality_sums.exit value_sums.exit weighted_sums.exit;
 }

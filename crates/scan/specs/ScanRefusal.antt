@@ -36,8 +36,6 @@ lengths_accepted head given =
     && eqb given.quality_sums (cells_of head)
     && eqb given.value_sums (cells_of head)
     && eqb given.weighted_sums (cells_of head)
-    && eqb given.least (cells_of head)
-    && eqb given.greatest (cells_of head)
 
 abbrev pub lengths_of : Scan → Lists → Lengths
 lengths_of scan lists = record {
@@ -50,8 +48,6 @@ lengths_of scan lists = record {
   quality_sums = length lists.sums.quality_sums;
   value_sums = length lists.sums.value_sums;
   weighted_sums = length lists.sums.weighted_sums;
-  least = length lists.extremes.least;
-  greatest = length lists.extremes.greatest;
 }
 
 unfoldable pub lists_exact : Scan → Lists → Bool

@@ -16,8 +16,6 @@ pub struct Lengths {
     pub quality_sums: usize,
     pub value_sums: usize,
     pub weighted_sums: usize,
-    pub least: usize,
-    pub greatest: usize,
 }
 
 // The exact lengths of azimuths, values and qualities.
@@ -58,11 +56,5 @@ pub fn lengths_accepted(head: ScanHead, given: Lengths) -> bool
     if given.value_sums != cells {
         return false;
     }
-    if given.weighted_sums != cells {
-        return false;
-    }
-    if given.least != cells {
-        return false;
-    }
-    given.greatest == cells
+    given.weighted_sums == cells
 }

@@ -1,4 +1,4 @@
--- Document 02, T-05 and T-06, and demand 2 over the pair: what holds of a tally that is done, and of what is published from its sums. Assumes nothing.
+-- Document 02, T-05, and demand 2 over the pair: what holds of a tally that is done, and of what is published from its sums. Assumes nothing.
 use mathlib.Core.Path.{◌≡◌, refl, sym, ◌∙◌}
 use Prim.Native.Nat.{ℕ, ◌≤◌, ◌<◌}
 use denote.Triple.Both.{Both}
@@ -12,9 +12,6 @@ use Rattle.refusal.proofs.AnswerLaws.{given_is, filled_is}
 use Rattle.limits.specs.declared.weighting.Weighting.{Weighting}
 use Rattle.tally.specs.LentSums.{Cells}
 use Rattle.tally.specs.Tally.{tallied_sums}
-use Rattle.extremes.specs.Extremes.{least_of, greatest_of, tallied_extremes}
-use Rattle.extremes.specs.ExtremesOfGates.{ExtremesOfGates}
-use Rattle.extremes.proofs.ExtremesOfGates.{extremes_of_gates}
 use Rattle.publish.specs.CellMeans.{cell_mean, cells_from}
 use Rattle.publish.specs.Publication.{publish_refusal, Publishes}
 use Rattle.publish.specs.Publish.{published_cells}
@@ -45,18 +42,6 @@ module _ (scan : Scan) where
   unfolding scan_cells tallied_lists cells_from
   mean_at weighting cell h = table_at _ _ cell h
 
-  -- the least and the greatest of a cell
-  least_at : (cell : ℕ) → cell < cells_of scan.head → get_or (tallied_lists scan).extremes.least cell 0 ≡ least_of (tallied_lists scan).ledger scan.values cell
-  unfolding tallied_lists tallied_extremes
-  least_at cell h = table_at _ _ cell h
-
-  greatest_at : (cell : ℕ) → cell < cells_of scan.head → get_or (tallied_lists scan).extremes.greatest cell 0 ≡ greatest_of (tallied_lists scan).ledger scan.values cell
-  unfolding tallied_lists tallied_extremes
-  greatest_at cell h = table_at _ _ cell h
-
-  pub cell_extremes : ((k : ℕ) → get_or scan.values k 0 ≤ 65535) → (cell : ℕ) → cell < cells_of scan.head → ExtremesOfGates (tallied_lists scan).ledger scan.values scan.qualities cell (get_or (tallied_lists scan).extremes.least cell 0) (get_or (tallied_lists scan).extremes.greatest cell 0)
-  cell_extremes small cell h = rw (least_at cell h, greatest_at cell h) (extremes_of_gates (tallied_lists scan).ledger scan.values cell scan.qualities small)
-
   -- lists of columns x rows are as long as the sums
   as_long : {cells : Cells} → length cells.means ≡ cells_of scan.head → length cells.qualities ≡ cells_of scan.head → Publishable (tallied_lists scan).sums cells
   unfolding tallied_lists tallied_sums
@@ -76,7 +61,7 @@ module _ (scan : Scan) where
     unfolding scan_cells tallied_lists
     cells_are weighting = tally_published _ scan.values scan.qualities (cells_of scan.head) weighting small (qualities_most good)
 
-    pub published_scan : (weighting : Weighting) (cells : Both Cells Cells) (answer : Outcome) → length cells.entry.means ≡ cells_of scan.head → length cells.entry.qualities ≡ cells_of scan.head → Publishes weighting (tallied_lists scan).sums cells answer → PublishedScan weighting scan (tallied_lists scan) cells answer
+    pub published_scan : (weighting : Weighting) (cells : Both Cells Cells) (answer : Outcome) → length cells.entry.means ≡ cells_of scan.head → length cells.entry.qualities ≡ cells_of scan.head → Publishes weighting (tallied_lists scan).sums cells answer → PublishedScan weighting scan (tallied_lists scan).ledger cells answer
     unfolding answered
     published_scan weighting cells answer m q published =
         let none : publish_refusal (tallied_lists scan).sums cells.entry ≡ 0 = equal_accepted _ _ (equal_from _ _ (as_long {cells = cells.entry} m q)) in
@@ -87,16 +72,12 @@ module _ (scan : Scan) where
           mean_between = λ cell h.
               rw (left, mean_at weighting cell h)
               (λ ne least greatest bound. mean_between weighting (tallied_lists scan).ledger scan.values scan.qualities cell least greatest bound ne);
-          mean_between_extremes = λ cell h.
-              rw (left, mean_at weighting cell h)
-              (λ ne. mean_between weighting (tallied_lists scan).ledger scan.values scan.qualities cell _ _ (λ k part. (cell_extremes small cell h).between k part.is_gate part.is_in_cell) ne);
         }
 
     all_of_it : TallyPublished scan (tallied_lists scan)
     all_of_it = record {
       sums_fit = tally_fits good small;
       count_total = placed_total scan good.lengths.azimuths_length (cells_most scan.head good.grid);
-      extremes_of_gates = cell_extremes small;
       exact_by_marks = exact_by_marks scan good.lengths.azimuths_length good.gates_least good.centres good.site good.grid good.azimuths_good (tallied_lists scan).ledger (tallied_lists scan).marks (λ k i. refl) (λ k i. refl);
       published = published_scan;
     }

@@ -60,7 +60,7 @@ module _ (scan : Scan) where
   -- the unmarked measured gates of the cell
   unfoldable pub unmarked_count : List ℕ → List ℕ → ℕ → ℕ
   unmarked_count ledger marks cell =
-      gates_that (λ gate. contributes ledger scan.values cell gate && not (is_marked marks gate))
+      gates_that (λ gate. contributes ledger scan.values scan.qualities cell gate && not (is_marked marks gate))
 
   -- the marked measured gates beside the cell, those outside the grid included
   unfoldable pub marked_beside : List ℕ → ℕ → ℕ

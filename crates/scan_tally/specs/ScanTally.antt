@@ -1,4 +1,4 @@
--- Document 02, T-05 and T-06: what is answered of a scan that is tallied, and what its lists hold afterwards. Assumes nothing.
+-- Document 02, T-05: what is answered of a scan that is tallied, and what its lists hold afterwards. Assumes nothing.
 use Rattle.std.specs.Prelude.{◌≡◌}
 use denote.Triple.Both.{Both}
 use Rattle.refusal.specs.Answer.{answered, afterwards}

@@ -1,5 +1,4 @@
-// The tally of a scan: one scan, one site and one grid come in; out come the ledger, the marks, the cell sums, and the least and
-// the greatest value of each cell.
+// The tally of a scan: one scan, one site and one grid come in; out come the ledger, the marks and the cell sums.
 ghost use Rattle.scan.specs.LentLists.{lent_lists};
 ghost use Rattle.scan.specs.Scan.{scan_held};
 ghost use Rattle.scan_tally.specs.ScanTally.{Tallies};
@@ -22,12 +21,10 @@ pub fn tally(
     quality_sums: &mut [u32],
     value_sums: &mut [u64],
     weighted_sums: &mut [u64],
-    least: &mut [u16],
-    greatest: &mut [u16],
 ) -> Outcome
     ensures { Tallies
         (scan_held head azimuths.entry values.entry qualities.entry)
-        (lent_lists ledger marks counts quality_sums value_sums weighted_sums least greatest) result }
+        (lent_lists ledger marks counts quality_sums value_sums weighted_sums) result }
 {
     let given = Lengths {
         azimuths: azimuths.len(),
@@ -39,8 +36,6 @@ pub fn tally(
         quality_sums: quality_sums.len(),
         value_sums: value_sums.len(),
         weighted_sums: weighted_sums.len(),
-        least: least.len(),
-        greatest: greatest.len(),
     };
     let lengths = lengths_accepted(head, given);
     let number = scan_refusal(
@@ -63,8 +58,6 @@ pub fn tally(
         quality_sums,
         value_sums,
         weighted_sums,
-        least,
-        greatest,
     );
     Outcome::Done
 }

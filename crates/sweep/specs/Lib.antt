@@ -1,2 +1,1 @@
-pub mod CellLists
 pub mod SweepOperations

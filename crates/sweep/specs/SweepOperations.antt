@@ -1,16 +1,16 @@
--- Document 02, T-01 and T-06: what each operation of a sweep answers and leaves. Assumes nothing.
+-- Document 02, T-01: what each operation of a sweep answers and leaves. Assumes nothing.
 use Rattle.std.specs.Prelude.{true, false, ◌≡◌, ℕ, ◌+◌, length}
 use denote.Triple.Both.{Both}
 use Rattle.refusal.specs.Answer.{Answer, gives, refuses, answered, afterwards}
 use Rattle.tally.specs.LentSums.{Sums, Cells}
+use Rattle.tally.specs.Tally.{cleared}
 use Rattle.publish.specs.Publish.{published_cells}
 use Rattle.scan.specs.declared.head.ScanHead.{ScanHead}
 use Rattle.scan.specs.LentLists.{Lists}
 use Rattle.sweep_checks.specs.declared.lengths.CellLengths.{CellLengths}
 use Rattle.sweep_checks.specs.SweepNumbers.{open_number, close_number}
 use Rattle.accepted_take.specs.RayGroup.{RayGroup}
-use Rattle.accepted_take.specs.TakenLists.{sum_lengths, tally_lengths, taken_lists, take_refusal}
-use Rattle.sweep.specs.CellLists.{CellLists, of_no_gates}
+use Rattle.accepted_take.specs.TakenLists.{sum_lengths, taken_lists, take_refusal}
 use Rattle.sweep.specs.declared.Sweep.{Sweep}
 use Rattle.sweep.specs.declared.Swept.{Swept}
 use Rattle.sweep.specs.declared.Swept.TheVariants.{State, Refused}
@@ -20,17 +20,17 @@ unfoldable pub swept_answer : Swept → Answer Sweep
 swept_answer (State sweep) = gives sweep
 swept_answer (Refused number) = refuses number
 
--- ---- opening: "Opening sets the sums to 0", and the least and the greatest to those of an empty cell
+-- ---- opening: "Opening sets the sums to 0"
 
-unfoldable pub open_refusal : ScanHead → CellLists → ℕ
-open_refusal head lists = open_number head (tally_lengths lists.sums lists.extremes)
+unfoldable pub open_refusal : ScanHead → Sums → ℕ
+open_refusal head sums = open_number head (sum_lengths sums)
 
 unfoldable pub opened : ScanHead → Sweep
 opened head = record { head = head; taken = 0; closed = false }
 
-pub record Opens (head : ScanHead) (lists : Both CellLists CellLists) (answer : Swept) : Type 0 where
-  pub the_answer : swept_answer answer ≡ answered (open_refusal head lists.entry) (opened head)
-  pub the_lists : lists.exit ≡ afterwards (open_refusal head lists.entry) lists.entry (of_no_gates lists.entry)
+pub record Opens (head : ScanHead) (sums : Both Sums Sums) (answer : Swept) : Type 0 where
+  pub the_answer : swept_answer answer ≡ answered (open_refusal head sums.entry) (opened head)
+  pub the_sums : sums.exit ≡ afterwards (open_refusal head sums.entry) sums.entry (cleared sums.entry)
 
 -- ---- taking rays: the state counts them
 

@@ -1,16 +1,14 @@
 // A sweep: a scan whose rays are fed while the antenna turns.
-ghost use Rattle.tally.specs.LentSums.{sums_held, lent_cells};
+ghost use Rattle.tally.specs.LentSums.{sums_held, lent_sums, lent_cells};
 ghost use Rattle.scan.specs.LentLists.{lent_lists};
 ghost use Rattle.accepted_take.specs.RayGroup.{group_held};
-ghost use Rattle.sweep.specs.CellLists.{lent_cell_lists};
 ghost use Rattle.sweep.specs.SweepOperations.{Opens, Takes, Closes};
 
 use accepted_take::accepted_take;
-use extremes::clear_extremes;
 use publish::publish_cells;
 use scan::{ScanHead, azimuths_accepted, qualities_accepted};
 use sweep_checks::{
-    CellLengths, GroupLengths, SumLengths, TallyLengths, close_refusal, open_refusal, take_refusal,
+    CellLengths, GroupLengths, SumLengths, close_refusal, open_refusal, take_refusal,
 };
 use tally::clear_sums;
 
@@ -30,36 +28,29 @@ pub enum Swept {
 }
 
 impl Sweep {
-    // Announces rays and gates. The sums become 0, and the least and the greatest those of empty cells.
+    // Announces rays and gates. The sums become 0.
     pub fn open(
         head: ScanHead,
         counts: &mut [u32],
         quality_sums: &mut [u32],
         value_sums: &mut [u64],
         weighted_sums: &mut [u64],
-        least: &mut [u16],
-        greatest: &mut [u16],
     ) -> Swept
-        ensures { Opens head (lent_cell_lists counts quality_sums value_sums weighted_sums least greatest) result }
+        ensures { Opens head (lent_sums counts quality_sums value_sums weighted_sums) result }
     {
         let number = open_refusal(
             head,
-            TallyLengths {
-                sums: SumLengths {
-                    counts: counts.len(),
-                    quality_sums: quality_sums.len(),
-                    value_sums: value_sums.len(),
-                    weighted_sums: weighted_sums.len(),
-                },
-                least: least.len(),
-                greatest: greatest.len(),
+            SumLengths {
+                counts: counts.len(),
+                quality_sums: quality_sums.len(),
+                value_sums: value_sums.len(),
+                weighted_sums: weighted_sums.len(),
             },
         );
         if number != 0 {
             return Swept::Refused(number);
         }
         clear_sums(counts, quality_sums, value_sums, weighted_sums);
-        clear_extremes(least, greatest);
         Swept::State(Sweep {
             head,
             taken: 0,
@@ -79,10 +70,8 @@ impl Sweep {
         quality_sums: &mut [u32],
         value_sums: &mut [u64],
         weighted_sums: &mut [u64],
-        least: &mut [u16],
-        greatest: &mut [u16],
     ) -> Swept
-        ensures { Takes self (group_held azimuths.entry values.entry qualities.entry) (lent_lists ledger marks counts quality_sums value_sums weighted_sums least greatest) result }
+        ensures { Takes self (group_held azimuths.entry values.entry qualities.entry) (lent_lists ledger marks counts quality_sums value_sums weighted_sums) result }
     {
         let head = self.head;
         let number = take_refusal(
@@ -96,15 +85,11 @@ impl Sweep {
                 ledger: ledger.len(),
                 marks: marks.len(),
             },
-            TallyLengths {
-                sums: SumLengths {
-                    counts: counts.len(),
-                    quality_sums: quality_sums.len(),
-                    value_sums: value_sums.len(),
-                    weighted_sums: weighted_sums.len(),
-                },
-                least: least.len(),
-                greatest: greatest.len(),
+            SumLengths {
+                counts: counts.len(),
+                quality_sums: quality_sums.len(),
+                value_sums: value_sums.len(),
+                weighted_sums: weighted_sums.len(),
             },
             azimuths_accepted(azimuths),
             qualities_accepted(qualities),
@@ -124,8 +109,6 @@ impl Sweep {
             quality_sums,
             value_sums,
             weighted_sums,
-            least,
-            greatest,
         ) {
             return Swept::Refused(31);
         }

@@ -1,9 +1,8 @@
--- Document 02, T-01 and T-06, refusal 6: the lengths of the lists that an operation of a sweep is lent. Assumes nothing.
+-- Document 02, T-01, refusal 6: the lengths of the lists that an operation of a sweep is lent. Assumes nothing.
 use Rattle.std.specs.Prelude.{Bool, ◌&&◌, not, ◌*◌, eqb}
 use Rattle.scan.specs.declared.head.ScanHead.{ScanHead}
 use Rattle.scan.specs.Scan.{gates_of, cells_of}
 use Rattle.sweep_checks.specs.declared.lengths.SumLengths.{SumLengths}
-use Rattle.sweep_checks.specs.declared.lengths.TallyLengths.{TallyLengths}
 use Rattle.sweep_checks.specs.declared.lengths.GroupLengths.{GroupLengths}
 use Rattle.sweep_checks.specs.declared.lengths.CellLengths.{CellLengths}
 
@@ -13,11 +12,6 @@ sums_accepted head given =
     eqb given.counts (cells_of head)
     && (eqb given.quality_sums (cells_of head)
     && (eqb given.value_sums (cells_of head) && eqb given.weighted_sums (cells_of head)))
-
--- the sums, and least and greatest: columns x rows
-unfoldable pub tally_accepted : ScanHead → TallyLengths → Bool
-tally_accepted head given =
-    sums_accepted head given.sums && (eqb given.least (cells_of head) && eqb given.greatest (cells_of head))
 
 -- not a group of no rays; as many gates as its rays have; the whole ledger and all marks, of all rays that were announced
 unfoldable pub group_accepted : ScanHead → GroupLengths → Bool

@@ -4,10 +4,9 @@ use Rattle.refusal.specs.Checks.{◌unless◌, first_refusal, ◌then◌}
 use Rattle.scan.specs.declared.head.ScanHead.{ScanHead}
 use Rattle.scan.specs.ScanRefusal.{scan_number}
 use Rattle.sweep_checks.specs.declared.lengths.SumLengths.{SumLengths}
-use Rattle.sweep_checks.specs.declared.lengths.TallyLengths.{TallyLengths}
 use Rattle.sweep_checks.specs.declared.lengths.GroupLengths.{GroupLengths}
 use Rattle.sweep_checks.specs.declared.lengths.CellLengths.{CellLengths}
-use Rattle.sweep_checks.specs.SweepLengths.{sums_accepted, tally_accepted, group_accepted, cells_accepted}
+use Rattle.sweep_checks.specs.SweepLengths.{sums_accepted, group_accepted, cells_accepted}
 
 -- "19 for a closed state", "17 for azimuths past the count of rays announced": so many are taken, and so many are to be taken now
 unfoldable pub state_number : ScanHead → Bool → ℕ → ℕ → ℕ
@@ -18,14 +17,14 @@ state_number head closed taken more =
     ∷ [])
 
 -- "1 to 6 on opening"
-unfoldable pub open_number : ScanHead → TallyLengths → ℕ
-open_number head tally = scan_number head (tally_accepted head tally) true true
+unfoldable pub open_number : ScanHead → SumLengths → ℕ
+open_number head sums = scan_number head (sums_accepted head sums) true true
 
 -- "19, then 17, then 1 to 5 for the numbers in the state, precede the rest": 6, 7 and 8
-unfoldable pub take_number : ScanHead → Bool → ℕ → GroupLengths → TallyLengths → Bool → Bool → ℕ
-take_number head closed taken group tally azimuths qualities =
+unfoldable pub take_number : ScanHead → Bool → ℕ → GroupLengths → SumLengths → Bool → Bool → ℕ
+take_number head closed taken group sums azimuths qualities =
     state_number head closed taken group.azimuths
-    then scan_number head (group_accepted head group && tally_accepted head tally) azimuths qualities
+    then scan_number head (group_accepted head group && sums_accepted head sums) azimuths qualities
 
 -- "18 for closing early, then 6 there"
 unfoldable pub close_number : ScanHead → Bool → ℕ → SumLengths → CellLengths → ℕ

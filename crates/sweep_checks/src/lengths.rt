@@ -1,6 +1,6 @@
 // The lengths of the lists that an operation of a sweep is lent.
 ghost use Rattle.std.specs.Prelude.{◌≡◌, ◌≤◌};
-ghost use Rattle.sweep_checks.specs.SweepLengths.{sums_accepted, tally_accepted, group_accepted, cells_accepted};
+ghost use Rattle.sweep_checks.specs.SweepLengths.{sums_accepted, group_accepted, cells_accepted};
 
 use scan::{ScanHead, cells_of, gates_of};
 
@@ -10,14 +10,6 @@ pub struct SumLengths {
     pub quality_sums: usize,
     pub value_sums: usize,
     pub weighted_sums: usize,
-}
-
-// Those of all lists of a tally that have a number for each cell.
-#[derive(Drop)]
-pub struct TallyLengths {
-    pub sums: SumLengths,
-    pub least: usize,
-    pub greatest: usize,
 }
 
 // Those of a group of rays, and of ledger and marks.
@@ -51,21 +43,6 @@ pub fn sums_accepted(head: ScanHead, given: SumLengths) -> bool
         return false;
     }
     given.weighted_sums == cells
-}
-
-// Columns x rows each.
-pub fn tally_accepted(head: ScanHead, given: TallyLengths) -> bool
-    ensures { result ≡ tally_accepted head given }
-{
-    let cells = cells_of(head);
-    let sums = given.sums;
-    if !sums_accepted(head, sums) {
-        return false;
-    }
-    if given.least != cells {
-        return false;
-    }
-    given.greatest == cells
 }
 
 // A ray or more; rays x gates of the group; rays x gates of the whole ledger and of all marks. No more rays than are announced.

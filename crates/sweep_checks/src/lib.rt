@@ -2,5 +2,5 @@
 mod lengths;
 mod refusal_numbers;
 
-pub use lengths::{CellLengths, GroupLengths, SumLengths, TallyLengths};
+pub use lengths::{CellLengths, GroupLengths, SumLengths};
 pub use refusal_numbers::{close_refusal, open_refusal, take_refusal};

@@ -3,8 +3,7 @@ ghost use Rattle.std.specs.Prelude.{◌≡◌};
 ghost use Rattle.sweep_checks.specs.SweepNumbers.{state_number, open_number, take_number, close_number};
 
 use crate::lengths::{
-    CellLengths, GroupLengths, SumLengths, TallyLengths, cells_accepted, group_accepted,
-    sums_accepted, tally_accepted,
+    CellLengths, GroupLengths, SumLengths, cells_accepted, group_accepted, sums_accepted,
 };
 use scan::{ScanHead, scan_refusal};
 
@@ -25,10 +24,10 @@ fn state_refusal(head: ScanHead, closed: bool, taken: u32, more: usize) -> u32
 }
 
 // 1 to 6.
-pub fn open_refusal(head: ScanHead, given: TallyLengths) -> u32
+pub fn open_refusal(head: ScanHead, given: SumLengths) -> u32
     ensures { result ≡ open_number head given }
 {
-    scan_refusal(head, tally_accepted(head, given), true, true)
+    scan_refusal(head, sums_accepted(head, given), true, true)
 }
 
 // 19, 17, 1 to 8. Azimuths and qualities were tested by the caller.
@@ -37,11 +36,11 @@ pub fn take_refusal(
     closed: bool,
     taken: u32,
     group: GroupLengths,
-    tally: TallyLengths,
+    sums: SumLengths,
     azimuths: bool,
     qualities: bool,
 ) -> u32
-    ensures { result ≡ take_number head closed taken group tally azimuths qualities }
+    ensures { result ≡ take_number head closed taken group sums azimuths qualities }
 {
     let state = state_refusal(head, closed, taken, group.azimuths);
     if state != 0 {
@@ -50,7 +49,7 @@ pub fn take_refusal(
     if !group_accepted(head, group) {
         return scan_refusal(head, false, azimuths, qualities);
     }
-    scan_refusal(head, tally_accepted(head, tally), azimuths, qualities)
+    scan_refusal(head, sums_accepted(head, sums), azimuths, qualities)
 }
 
 // 19, 17, 1 to 5, 18 for closing early, then 6.

@@ -18,9 +18,6 @@ use Rattle.tally.specs.Tally.{cleared, added_sums}
 use Rattle.tally.specs.Width.{fit_widths}
 use Rattle.tally.proofs.TallySplit.{added_joined}
 use Rattle.tally.proofs.TallyWidth.{GatesMost, from_nothing_fits}
-use Rattle.extremes.specs.LentExtremes.{Extremes}
-use Rattle.extremes.specs.Extremes.{compared}
-use Rattle.extremes.proofs.CompareSplit.{compared_joined}
 use Rattle.placement.specs.declared.gate.Placement.{Placement}
 use Rattle.placement.specs.Gate.{entry_of}
 use Rattle.scan.specs.declared.head.ScanHead.{ScanHead}
@@ -99,12 +96,6 @@ module _ {head : ScanHead} {rays : RayGroup} (good : GoodRays head rays) where
         let length-is = sym (told_length entry_of head head.gates rays.azimuths) in
         sym (added_joined (ledger_so_far head rays) rays.values rays.qualities (group_ledger head group) group.values group.qualities (good.values_length ∙ length-is) (good.qualities_length ∙ length-is) sums)
         ∙ sym (ap (λ (l : List ℕ). added_sums l (rays.values ++ group.values) (rays.qualities ++ group.qualities) sums) (told_joined entry_of head head.gates rays.azimuths group.azimuths))
-
-    pub extremes_behind : (extremes : Extremes) → compared (group_ledger head group) group.values (compared (ledger_so_far head rays) rays.values extremes) ≡ compared (ledger_so_far head (joined rays group)) (joined rays group).values extremes
-    unfolding joined
-    extremes_behind extremes =
-        sym (compared_joined (ledger_so_far head rays) rays.values (group_ledger head group) group.values (good.values_length ∙ sym (told_length entry_of head head.gates rays.azimuths)) extremes)
-        ∙ sym (ap (λ (l : List ℕ). compared l (rays.values ++ group.values) extremes) (told_joined entry_of head head.gates rays.azimuths group.azimuths))
 
     -- a list with room for all rays announced has room for these, whatever was stored in it
     pub room_behind : (list lent stored : List ℕ) → length list ≡ gates_of head → list ≡ sets lent 0 stored → length (joined rays group).azimuths * head.gates ≤ length lent

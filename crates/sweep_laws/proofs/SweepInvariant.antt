@@ -13,8 +13,6 @@ use Rattle.refusal.proofs.Then.{then_none}
 use Rattle.tally.specs.Tally.{cleared, added_sums}
 use Rattle.tally.specs.Width.{fit_widths}
 use Rattle.tally.proofs.TallyFromNothing.{from_nothing}
-use Rattle.extremes.specs.Extremes.{emptied, compared}
-use Rattle.extremes.proofs.ExtremesFromNothing.{extremes_from_nothing}
 use Rattle.placement.specs.Gate.{entry_of, mark_of}
 use Rattle.limits.specs.declared.weighting.Weighting.{Weighting}
 use Rattle.publish.specs.Publish.{published_cells}
@@ -26,12 +24,12 @@ use Rattle.publish.proofs.TalliedCells.{tally_published}
 use Rattle.scan_laws.specs.TallyPublished.{scan_cells}
 use Rattle.accepted_take.specs.RayGroup.{RayGroup}
 use Rattle.accepted_take.specs.TakenLists.{group_ledger, group_marks, taken_lists, take_checks, take_refusal}
-use Rattle.accepted_take.proofs.AcceptedGroup.{AcceptedCells, AcceptedGroup, accepted_group}
+use Rattle.accepted_take.proofs.AcceptedGroup.{AcceptedSums, AcceptedGroup, accepted_group}
 use Rattle.sweep.specs.declared.Swept.TheVariants.{State, Refused}
 use Rattle.sweep.specs.SweepOperations.{swept_answer, rays_refusal, counted, close_refusal, ended}
 use Rattle.sweep.proofs.ClosedSweep.{accepted_close}
 use Rattle.sweep_laws.specs.SweepSequence.{SweepLists, Held, Call, takes, closes, latest, handed_on, Sixteen, IsCall, joined, accepted_with, whole_scan}
-use Rattle.sweep_laws.proofs.GoodRays.{told_so_far, ledger_so_far, GoodRays, values_most, qualities_most, rays_fit, good_joined, told_behind, sums_behind, extremes_behind, room_behind}
+use Rattle.sweep_laws.proofs.GoodRays.{told_so_far, ledger_so_far, GoodRays, values_most, qualities_most, rays_fit, good_joined, told_behind, sums_behind, room_behind}
 
 not_both : {t : Bool} → t ≡ true → t ≡ false → ⊥
 not_both e f = let wrong : ◌≡◌ {A = ℕ} 1 0 = ap (λ (b : Bool). cond b 1 0) (sym e ∙ f) in omega (arith, wrong)
@@ -40,7 +38,7 @@ not_both e f = let wrong : ◌≡◌ {A = ℕ} 1 0 = ap (λ (b : Bool). cond b 1
 
 pub record SoFar (head : ScanHead) (lent : SweepLists) (rays : RayGroup) (held : Held) : Type 0 where
   pub rays_good : GoodRays head rays
-  pub cells_exact : AcceptedCells head lent.tally.sums lent.tally.extremes
+  pub sums_exact : AcceptedSums head lent.tally.sums
   pub same_head : held.sweep.head ≡ head
   pub rays_counted : held.sweep.taken ≡ length rays.azimuths
   pub all_when_closed : held.sweep.closed ≡ true → length rays.azimuths ≡ head.rays
@@ -50,7 +48,6 @@ pub record SoFar (head : ScanHead) (lent : SweepLists) (rays : RayGroup) (held :
   pub ledger_room : length rays.azimuths * head.gates ≤ length lent.tally.ledger
   pub marks_room : length rays.azimuths * head.gates ≤ length lent.tally.marks
   pub the_sums : held.lists.tally.sums ≡ added_sums (ledger_so_far head rays) rays.values rays.qualities (cleared lent.tally.sums)
-  pub the_extremes : held.lists.tally.extremes ≡ compared (ledger_so_far head rays) rays.values (emptied lent.tally.extremes)
   pub the_cells : held.lists.cells ≡ cond held.sweep.closed (scan_cells head.weighting (whole_scan head rays)) lent.cells
 
 module _ {head : ScanHead} {lent : SweepLists} {rays : RayGroup} {held : Held} (so_far : SoFar head lent rays held) where
@@ -79,7 +76,7 @@ module _ {head : ScanHead} {lent : SweepLists} {rays : RayGroup} {held : Held} (
       let next = accepted group e in
       record {
         rays_good = good_joined so_far.rays_good next so_far.rays_counted sixteen;
-        cells_exact = so_far.cells_exact;
+        sums_exact = so_far.sums_exact;
         same_head = so_far.same_head;
         rays_counted = omega (arith, so_far.rays_counted, length-append rays.azimuths group.azimuths);
         all_when_closed = λ was. absurd (not_both was next.open_yet);
@@ -94,10 +91,6 @@ module _ {head : ScanHead} {lent : SweepLists} {rays : RayGroup} {held : Held} (
         ledger_room = room_behind so_far.rays_good next so_far.rays_counted held.lists.tally.ledger lent.tally.ledger (ledger_so_far head rays) next.ledger_length so_far.the_ledger;
         marks_room = room_behind so_far.rays_good next so_far.rays_counted held.lists.tally.marks lent.tally.marks (told_so_far mark_of head rays) next.marks_length so_far.the_marks;
         the_sums = with_group group next;
-        the_extremes =
-            rw so_far.same_head
-            (ap (compared (group_ledger head group) group.values) so_far.the_extremes
-            ∙ extremes_behind so_far.rays_good next so_far.rays_counted (emptied lent.tally.extremes));
         the_cells = so_far.the_cells ∙ rw next.open_yet;
       }
 
@@ -106,7 +99,7 @@ module _ {head : ScanHead} {lent : SweepLists} {rays : RayGroup} {held : Held} (
   after_refusal : (lists : SweepLists) → lists ≡ held.lists → SoFar head lent rays (record { sweep = held.sweep; lists = lists })
   after_refusal lists same = rw same (record {
     rays_good = so_far.rays_good;
-    cells_exact = so_far.cells_exact;
+    sums_exact = so_far.sums_exact;
     same_head = so_far.same_head;
     rays_counted = so_far.rays_counted;
     all_when_closed = so_far.all_when_closed;
@@ -115,23 +108,16 @@ module _ {head : ScanHead} {lent : SweepLists} {rays : RayGroup} {held : Held} (
     ledger_room = so_far.ledger_room;
     marks_room = so_far.marks_room;
     the_sums = so_far.the_sums;
-    the_extremes = so_far.the_extremes;
     the_cells = so_far.the_cells;
   })
 
   -- ---- an accepted closing
 
-  pub extremes_are : held.lists.tally.extremes ≡ (tallied_lists (whole_scan head rays)).extremes
-  unfolding tallied_lists whole_scan rays_of cells_of gates_told
-  extremes_are =
-      so_far.the_extremes
-      ∙ extremes_from_nothing (ledger_so_far head rays) rays.values lent.tally.extremes so_far.cells_exact.least_length so_far.cells_exact.greatest_length
-
   pub sums_are : held.lists.tally.sums ≡ (tallied_lists (whole_scan head rays)).sums
   unfolding tallied_lists whole_scan rays_of cells_of gates_told
   sums_are =
       so_far.the_sums
-      ∙ from_nothing (ledger_so_far head rays) rays.values rays.qualities lent.tally.sums so_far.cells_exact.sums_pass.counts_length so_far.cells_exact.sums_pass.quality_sums_length so_far.cells_exact.sums_pass.value_sums_length so_far.cells_exact.sums_pass.weighted_sums_length
+      ∙ from_nothing (ledger_so_far head rays) rays.values rays.qualities lent.tally.sums so_far.sums_exact.counts_length so_far.sums_exact.quality_sums_length so_far.sums_exact.value_sums_length so_far.sums_exact.weighted_sums_length
 
   pub either_published : (weighting : Weighting) → published_cells weighting held.lists.tally.sums ≡ scan_cells weighting (whole_scan head rays)
   unfolding scan_cells tallied_lists whole_scan
@@ -149,7 +135,7 @@ module _ {head : ScanHead} {lent : SweepLists} {rays : RayGroup} {held : Held} (
       let known = accepted_close held.sweep.head held.sweep.closed held.sweep.taken held.lists.tally.sums held.lists.cells e in
       record {
         rays_good = so_far.rays_good;
-        cells_exact = so_far.cells_exact;
+        sums_exact = so_far.sums_exact;
         same_head = so_far.same_head;
         rays_counted = so_far.rays_counted;
         all_when_closed = λ was. sym so_far.rays_counted ∙ le_antisymm known.rays_most known.rays_least ∙ ap (λ (h : ScanHead). h.rays) so_far.same_head;
@@ -158,7 +144,6 @@ module _ {head : ScanHead} {lent : SweepLists} {rays : RayGroup} {held : Held} (
         ledger_room = so_far.ledger_room;
         marks_room = so_far.marks_room;
         the_sums = so_far.the_sums;
-        the_extremes = so_far.the_extremes;
         the_cells = published;
       }
 

@@ -1,4 +1,4 @@
--- Document 02, T-01, T-06 and T-10, and demand 2 over a sweep: what holds after any sequence of calls from an accepted opening. Assumes nothing.
+-- Document 02, T-01 and T-10, and demand 2 over a sweep: what holds after any sequence of calls from an accepted opening. Assumes nothing.
 use mathlib.Core.Bool.{Bool, true, cond}
 use mathlib.Core.List.{List, [], ◌∷◌, flat_map}
 use mathlib.Core.Path.{◌≡◌, refl, sym, ap, ◌∙◌}
@@ -19,10 +19,8 @@ use Rattle.refusal.proofs.RangeBounds.{range_bounds}
 use Rattle.placement.specs.declared.gate.Placement.{Placement}
 use Rattle.placement.specs.Gate.{entry_of, mark_of}
 use Rattle.tally.specs.LentSums.{Sums}
-use Rattle.tally.specs.Tally.{added_sums}
+use Rattle.tally.specs.Tally.{cleared, added_sums}
 use Rattle.tally.proofs.TallySplit.{added_none}
-use Rattle.extremes.specs.ExtremesOfGates.{ExtremesOfGates}
-use Rattle.extremes.proofs.ExtremesFromNothing.{compared_none}
 use Rattle.scan.specs.declared.head.ScanHead.{ScanHead}
 use Rattle.scan.specs.LentLists.{Lists}
 use Rattle.scan.specs.Rays.{regular_rays, all_gates}
@@ -36,21 +34,19 @@ use Rattle.scan_laws.specs.Placed.{placed_of}
 use Rattle.scan_laws.specs.ExactCount.{ExactByMarks}
 use Rattle.scan_laws.proofs.ExactCount.{exact_by_marks}
 use Rattle.scan_laws.proofs.PlacedTotal.{placed_total}
-use Rattle.scan_laws.proofs.TallyPublished.{cell_extremes}
-use Rattle.sweep_checks.specs.SweepLengths.{tally_accepted}
+use Rattle.sweep_checks.specs.SweepLengths.{sums_accepted}
 use Rattle.sweep_checks.specs.SweepNumbers.{open_number}
-use Rattle.accepted_take.proofs.AcceptedGroup.{accepted_cells}
+use Rattle.accepted_take.proofs.AcceptedGroup.{accepted_sums}
 use Rattle.accepted_take.specs.RayGroup.{RayGroup}
-use Rattle.accepted_take.specs.TakenLists.{tally_lengths}
+use Rattle.accepted_take.specs.TakenLists.{sum_lengths}
 use Rattle.sweep.specs.declared.Sweep.{Sweep}
 use Rattle.sweep.specs.declared.Swept.TheVariants.{State}
-use Rattle.sweep.specs.CellLists.{CellLists, cell_lists_of, of_no_gates}
 use Rattle.sweep.specs.SweepOperations.{swept_answer, open_refusal, opened, Opens}
 use Rattle.sweep_laws.specs.SweepSequence.{SweepLists, Held, held_from, Call, Sixteen, Sequence, held_after, no_rays, accepted_rays, whole_scan, NotRefusedBy}
 use Rattle.sweep_laws.specs.WholeSweep.{WholeSweep, AsTallied}
 use Rattle.sweep_laws.proofs.JoinedRays.{told_length}
-use Rattle.sweep_laws.proofs.GoodRays.{told_so_far, values_most}
-use Rattle.sweep_laws.proofs.SweepInvariant.{SoFar, sums_are, extremes_are, either_published, after_call}
+use Rattle.sweep_laws.proofs.GoodRays.{told_so_far}
+use Rattle.sweep_laws.proofs.SweepInvariant.{SoFar, sums_are, either_published, after_call}
 use Rattle.sweep_laws.proofs.NoWidthRefusal.{call_other}
 
 -- ---- from what is kept by every call
@@ -69,10 +65,6 @@ module _ {head : ScanHead} {lengths azimuths qualities : Bool} (numbers : Accept
   total =
       ap (λ (s : Sums). sum_to (λ cell. get_or s.counts cell 0) (length s.counts)) (sums_are so_far)
       ∙ placed_total (whole_scan head rays) refl (cells_most head numbers.grid_passes)
-
-  of_gates : (cell : ℕ) → cell < cells_of head → ExtremesOfGates (tallied_lists (whole_scan head rays)).ledger rays.values rays.qualities cell (get_or held.lists.tally.extremes.least cell 0) (get_or held.lists.tally.extremes.greatest cell 0)
-  unfolding whole_scan cells_of
-  of_gates cell h = rw (extremes_are so_far) (cell_extremes (whole_scan head rays) (values_most so_far.rays_good) cell h)
 
   -- where gates of the accepted rays stand, the lists hold what was written
   told_at : (tell : Placement → ℕ) (list : List ℕ) → length rays.azimuths * head.gates ≤ length list → (k : ℕ) → k < gates_of (whole_scan head rays).head → get_or (sets list 0 (told_so_far tell head rays)) k 0 ≡ get_or (told_so_far tell head rays) k 0
@@ -96,11 +88,9 @@ module _ {head : ScanHead} {lengths azimuths qualities : Bool} (numbers : Accept
     the_ledger = ledger_is;
     the_marks = marks_are;
     the_sums = sums_are so_far;
-    the_extremes = extremes_are so_far;
     the_cells = so_far.the_cells;
     either_sheet = either_published so_far;
     count_total = total;
-    extremes_of_gates = of_gates;
     exact_by_marks = exact;
   }
 
@@ -114,17 +104,17 @@ after_calls (call ∷ calls) so_far (this, others) =
 
 -- ---- from an accepted opening
 
-module _ (head : ScanHead) (lent : SweepLists) (left : CellLists) (sweep : Sweep) (opens : Opens head (record { entry = cell_lists_of lent.tally; exit = left }) (State sweep)) where
-  told : (open_refusal head (cell_lists_of lent.tally) ≡ 0) × (sweep ≡ opened head)
+module _ (head : ScanHead) (lent : SweepLists) (sums : Sums) (sweep : Sweep) (opens : Opens head (record { entry = lent.tally.sums; exit = sums }) (State sweep)) where
+  told : (open_refusal head lent.tally.sums ≡ 0) × (sweep ≡ opened head)
   unfolding swept_answer
-  told = given_is (open_refusal head (cell_lists_of lent.tally)) opens.the_answer
+  told = given_is (open_refusal head lent.tally.sums) opens.the_answer
 
-  numbers : AcceptedNumbers head (tally_accepted head (tally_lengths lent.tally.sums lent.tally.extremes)) true true
+  numbers : AcceptedNumbers head (sums_accepted head (sum_lengths lent.tally.sums)) true true
   unfolding open_refusal open_number
   numbers = accepted_numbers head _ _ _ told.0
 
-  at_first : SoFar head lent no_rays (held_from (opened head) lent (of_no_gates (cell_lists_of lent.tally)))
-  unfolding held_from opened no_rays of_no_gates added_sums gates_told all_gates flat_map regular_rays all_of Sixteen
+  at_first : SoFar head lent no_rays (held_from (opened head) lent (cleared lent.tally.sums))
+  unfolding held_from opened no_rays added_sums gates_told all_gates flat_map regular_rays all_of Sixteen
   at_first = record {
     rays_good = record {
       rays_most = omega arith;
@@ -135,7 +125,7 @@ module _ (head : ScanHead) (lent : SweepLists) (left : CellLists) (sweep : Sweep
       qualities_good = refl;
       values_good = refl;
     };
-    cells_exact = accepted_cells head lent.tally.sums lent.tally.extremes numbers.lengths_pass;
+    sums_exact = accepted_sums head lent.tally.sums numbers.lengths_pass;
     same_head = refl;
     rays_counted = refl;
     all_when_closed = λ was. let wrong : ◌≡◌ {A = ℕ} 0 1 = ap (λ (b : Bool). cond b 1 0) was in absurd (omega (arith, wrong));
@@ -143,18 +133,17 @@ module _ (head : ScanHead) (lent : SweepLists) (left : CellLists) (sweep : Sweep
     the_marks = refl;
     ledger_room = omega (arith, zero-mul head.gates);
     marks_room = omega (arith, zero-mul head.gates);
-    the_sums = sym (added_none [] [] [] _);
-    the_extremes = sym (compared_none _);
+    the_sums = sym (added_none [] [] [] (cleared lent.tally.sums));
     the_cells = refl;
   }
 
-  begun : SoFar head lent no_rays (held_from sweep lent left)
-  begun = rw (told.1, filled_is (cell_lists_of lent.tally) told.0 opens.the_lists) at_first
+  begun : SoFar head lent no_rays (held_from sweep lent sums)
+  begun = rw (told.1, filled_is lent.tally.sums told.0 opens.the_sums) at_first
 
-  module _ (calls : List Call) (sequence : Sequence (held_from sweep lent left) calls) where
+  module _ (calls : List Call) (sequence : Sequence (held_from sweep lent sums) calls) where
     -- "While the caller hands on the latest state and untouched lists, ledger, sums and cells equal those of the whole scan made of the accepted
     -- rays, however these were divided; demand 2 reads over them."
-    pub whole_sweep : WholeSweep head lent (accepted_rays no_rays calls) (held_after (held_from sweep lent left) calls)
+    pub whole_sweep : WholeSweep head lent (accepted_rays no_rays calls) (held_after (held_from sweep lent sums) calls)
     whole_sweep = whole numbers (after_calls calls begun sequence).0
 
     -- and 31 is never given
@@ -170,7 +159,7 @@ module _ (head : ScanHead) (lent : SweepLists) (left : CellLists) (sweep : Sweep
         rw (le-leb 1 (length rays.azimuths) (omega arith), le-leb (length rays.azimuths) 720 good.rays_most, numbers.gates_accepted, numbers.centres_pass, numbers.site_passes, numbers.grid_passes, exact, good.azimuths_good, good.qualities_good)
 
     -- so whatever `tally` is lent for that scan, of exact lengths, it leaves what the caller holds
-    pub as_tallied : (length (accepted_rays no_rays calls).azimuths ≡ 0 → ⊥) → (lists : Both Lists Lists) (answer : Outcome) → lists_exact (whole_scan head (accepted_rays no_rays calls)) lists.entry ≡ true → Tallies (whole_scan head (accepted_rays no_rays calls)) lists answer → AsTallied head lent (held_after (held_from sweep lent left) calls) lists.exit
+    pub as_tallied : (length (accepted_rays no_rays calls).azimuths ≡ 0 → ⊥) → (lists : Both Lists Lists) (answer : Outcome) → lists_exact (whole_scan head (accepted_rays no_rays calls)) lists.entry ≡ true → Tallies (whole_scan head (accepted_rays no_rays calls)) lists answer → AsTallied head lent (held_after (held_from sweep lent sums) calls) lists.exit
     as_tallied some lists answer exact tallies =
         let same = filled_is lists.entry (whole_accepted some lists.entry exact) tallies.the_lists in
         let sheet = ap (published_cells head.weighting) (sym whole_sweep.the_sums) ∙ whole_sweep.either_sheet head.weighting in
@@ -178,6 +167,5 @@ module _ (head : ScanHead) (lent : SweepLists) (left : CellLists) (sweep : Sweep
           same_ledger = whole_sweep.the_ledger;
           same_marks = whole_sweep.the_marks;
           same_sums = whole_sweep.the_sums;
-          same_extremes = whole_sweep.the_extremes;
           same_cells = rw sheet whole_sweep.the_cells;
         })

@@ -2,7 +2,7 @@
 -- the whole scan made of the rays that were accepted. Assumes nothing.
 use Rattle.std.specs.Prelude.{true, List, [], ◌∷◌, ◌++◌, ◌≡◌, ℕ, leb, length}
 use Rattle.arithmetic.specs.Places.{all_of}
-use Rattle.tally.specs.LentSums.{Cells}
+use Rattle.tally.specs.LentSums.{Sums, Cells}
 use Rattle.scan.specs.declared.head.ScanHead.{ScanHead}
 use Rattle.scan.specs.LentLists.{Lists}
 use Rattle.scan.specs.Scan.{Scan}
@@ -10,7 +10,6 @@ use Rattle.accepted_take.specs.RayGroup.{RayGroup}
 use Rattle.sweep.specs.declared.Sweep.{Sweep}
 use Rattle.sweep.specs.declared.Swept.{Swept}
 use Rattle.sweep.specs.declared.Swept.TheVariants.{State, Refused}
-use Rattle.sweep.specs.CellLists.{CellLists}
 use Rattle.sweep.specs.SweepOperations.{Takes, Closes}
 
 -- ---- what the caller holds
@@ -24,11 +23,11 @@ pub record Held : Type 0 where
   pub sweep : Sweep
   pub lists : SweepLists
 
--- after an accepted opening, which left these numbers of cells
-unfoldable pub held_from : Sweep → SweepLists → CellLists → Held
-held_from sweep lent left = record {
+-- after an accepted opening, which left these sums
+unfoldable pub held_from : Sweep → SweepLists → Sums → Held
+held_from sweep lent sums = record {
   sweep = sweep;
-  lists = record { tally = record { ledger = lent.tally.ledger; marks = lent.tally.marks; sums = left.sums; extremes = left.extremes }; cells = lent.cells };
+  lists = record { tally = record { ledger = lent.tally.ledger; marks = lent.tally.marks; sums = sums }; cells = lent.cells };
 }
 
 -- ---- calls: what is given, what is answered, and the lists afterwards

@@ -1,14 +1,12 @@
--- Document 02, T-01 with T-02's marks, T-10's counts, T-05's sums and T-06's least and greatest, and demand 2 over a sweep: what a caller holds,
--- beside the whole scan made of the accepted rays. Assumes nothing.
-use Rattle.std.specs.Prelude.{true, cond, ◌≡◌, ℕ, ◌<◌, length, get_or}
+-- Document 02, T-01 with T-02's marks, T-10's counts and T-05's sums, and demand 2 over a sweep: what a caller holds, beside the whole scan made of
+-- the accepted rays. Assumes nothing.
+use Rattle.std.specs.Prelude.{true, cond, ◌≡◌, length, get_or}
 use Rattle.std.proofs.lemmas.List.Edits.{sets}
 use Rattle.arithmetic.specs.Places.{sum_to}
 use Rattle.limits.specs.declared.weighting.Weighting.{Weighting}
-use Rattle.extremes.specs.ExtremesOfGates.{ExtremesOfGates}
 use Rattle.publish.specs.Publish.{published_cells}
 use Rattle.scan.specs.declared.head.ScanHead.{ScanHead}
 use Rattle.scan.specs.LentLists.{Lists}
-use Rattle.scan.specs.Scan.{cells_of}
 use Rattle.accepted_tally.specs.TalliedLists.{tallied_lists}
 use Rattle.scan_laws.specs.Placed.{placed_of}
 use Rattle.scan_laws.specs.ExactCount.{ExactByMarks}
@@ -26,15 +24,12 @@ pub record WholeSweep (head : ScanHead) (lent : SweepLists) (rays : RayGroup) (h
   pub the_ledger : held.lists.tally.ledger ≡ sets lent.tally.ledger 0 (tallied_lists (whole_scan head rays)).ledger
   pub the_marks : held.lists.tally.marks ≡ sets lent.tally.marks 0 (tallied_lists (whole_scan head rays)).marks
   pub the_sums : held.lists.tally.sums ≡ (tallied_lists (whole_scan head rays)).sums
-  pub the_extremes : held.lists.tally.extremes ≡ (tallied_lists (whole_scan head rays)).extremes
   -- until closing as lent
   pub the_cells : held.lists.cells ≡ cond held.sweep.closed (scan_cells head.weighting (whole_scan head rays)) lent.cells
   -- document 02, T-05: either sheet can be had by publishing from the same sums
   pub either_sheet : (weighting : Weighting) → published_cells weighting held.lists.tally.sums ≡ scan_cells weighting (whole_scan head rays)
   -- demand 2: the counts over the grid add up to the measured gates placed inside it
   pub count_total : sum_to (λ cell. get_or held.lists.tally.sums.counts cell 0) (length held.lists.tally.sums.counts) ≡ placed_of (whole_scan head rays)
-  -- document 02, T-06: the least and the greatest of each cell, over its measured gates of the accepted rays
-  pub extremes_of_gates : (cell : ℕ) → cell < cells_of head → ExtremesOfGates (tallied_lists (whole_scan head rays)).ledger rays.values rays.qualities cell (get_or held.lists.tally.extremes.least cell 0) (get_or held.lists.tally.extremes.greatest cell 0)
   -- document 02, T-10: what the ledger and the marks say of the exact positions of the accepted rays' gates
   pub exact_by_marks : ExactByMarks (whole_scan head rays) held.lists.tally.ledger held.lists.tally.marks
 
@@ -43,5 +38,4 @@ pub record AsTallied (head : ScanHead) (lent : SweepLists) (held : Held) (tallie
   pub same_ledger : held.lists.tally.ledger ≡ sets lent.tally.ledger 0 tallied.ledger
   pub same_marks : held.lists.tally.marks ≡ sets lent.tally.marks 0 tallied.marks
   pub same_sums : held.lists.tally.sums ≡ tallied.sums
-  pub same_extremes : held.lists.tally.extremes ≡ tallied.extremes
   pub same_cells : held.lists.cells ≡ cond held.sweep.closed (published_cells head.weighting tallied.sums) lent.cells

@@ -38,7 +38,7 @@ pub record SumsAfter (ledger values qualities : List ℕ) (share : ℕ → ℕ �
 module _ (ledger values qualities : List ℕ) (share : ℕ → ℕ → ℕ) where
   -- what gate k gives to the cell
   unfoldable pub given : ℕ → ℕ → ℕ
-  given cell k = cond (contributes ledger values cell k) (share (get_or values k 0) (get_or qualities k 0)) 0
+  given cell k = cond (contributes ledger values qualities cell k) (share (get_or values k 0) (get_or qualities k 0)) 0
 
   pub one_more : (k cell : ℕ) → sum_over ledger values qualities share (k + 1) cell ≡ sum_over ledger values qualities share k cell + given cell k
   unfolding sum_over given

@@ -5,15 +5,15 @@ use Rattle.arithmetic.specs.Places.{table, sum_to}
 use Rattle.tally.specs.LentSums.{Sums}
 use Rattle.tally.specs.Gates.{is_measured, echo_of, weighted_echo}
 
--- gate k is measured and its entry names the cell; quality plays no part
-unfoldable pub contributes : List ℕ → List ℕ → ℕ → ℕ → Bool
-contributes ledger values cell k = eqb (get_or ledger k 0) cell && is_measured (get_or values k 0)
-
 module _ (ledger values qualities : List ℕ) where
+  -- gate k is measured and its entry names the cell
+  unfoldable pub contributes : ℕ → ℕ → Bool
+  contributes cell k = eqb (get_or ledger k 0) cell && is_measured (get_or values k 0)
+
   -- the sum, over the first n gates that contribute to the cell, of what the share gives for value and quality
   unfoldable pub sum_over : (ℕ → ℕ → ℕ) → ℕ → ℕ → ℕ
   sum_over share n cell =
-      sum_to (λ k. cond (contributes ledger values cell k) (share (get_or values k 0) (get_or qualities k 0)) 0) n
+      sum_to (λ k. cond (contributes cell k) (share (get_or values k 0) (get_or qualities k 0)) 0) n
 
   unfoldable pub count_of : ℕ → ℕ
   count_of cell = sum_over (λ value quality. 1) (length ledger) cell

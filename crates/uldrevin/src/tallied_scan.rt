@@ -15,10 +15,8 @@ pub extern "C" fn uldrevin_tally(
     quality_sums: &mut [u32],
     value_sums: &mut [u64],
     weighted_sums: &mut [u64],
-    least: &mut [u16],
-    greatest: &mut [u16],
 ) -> u32
-    ensures { TalliesScan scan azimuths values qualities ledger marks counts quality_sums value_sums weighted_sums least greatest result }
+    ensures { TalliesScan scan azimuths values qualities ledger marks counts quality_sums value_sums weighted_sums result }
 {
     answer_tally(
         scan,
@@ -31,7 +29,5 @@ pub extern "C" fn uldrevin_tally(
         quality_sums,
         value_sums,
         weighted_sums,
-        least,
-        greatest,
     )
 }

@@ -11,22 +11,11 @@ pub extern "C" fn uldrevin_sweep_open(
     quality_sums: &mut [u32],
     value_sums: &mut [u64],
     weighted_sums: &mut [u64],
-    least: &mut [u16],
-    greatest: &mut [u16],
     sweep: &mut [i64; 15],
 ) -> u32
-    ensures { OpensSweep scan counts quality_sums value_sums weighted_sums least greatest sweep result }
+    ensures { OpensSweep scan counts quality_sums value_sums weighted_sums sweep result }
 {
-    answer_open(
-        scan,
-        counts,
-        quality_sums,
-        value_sums,
-        weighted_sums,
-        least,
-        greatest,
-        sweep,
-    )
+    answer_open(scan, counts, quality_sums, value_sums, weighted_sums, sweep)
 }
 
 #[unsafe(no_mangle)]
@@ -41,10 +30,8 @@ pub extern "C" fn uldrevin_sweep_take(
     quality_sums: &mut [u32],
     value_sums: &mut [u64],
     weighted_sums: &mut [u64],
-    least: &mut [u16],
-    greatest: &mut [u16],
 ) -> u32
-    ensures { TakesRays sweep azimuths values qualities ledger marks counts quality_sums value_sums weighted_sums least greatest result }
+    ensures { TakesRays sweep azimuths values qualities ledger marks counts quality_sums value_sums weighted_sums result }
 {
     answer_take(
         sweep,
@@ -57,8 +44,6 @@ pub extern "C" fn uldrevin_sweep_take(
         quality_sums,
         value_sums,
         weighted_sums,
-        least,
-        greatest,
     )
 }
 

@@ -9,7 +9,7 @@ use uldrevin::exports::{
     uldrevin_place, uldrevin_publish, uldrevin_record_write, uldrevin_tally, GridNumbers,
     ScanNumbers, SiteNumbers,
 };
-use uldrevin::{EntryLists, ExtremeLists, GateLists, Refusal, SumLists, OUTSIDE};
+use uldrevin::{EntryLists, GateLists, Refusal, SumLists, OUTSIDE};
 
 fn site_numbers(site: Site) -> SiteNumbers {
     SiteNumbers {
@@ -100,10 +100,9 @@ fn tally_as_c(
     scan: GateLists,
     entries: &mut EntryLists,
     sums: &mut SumLists,
-    extremes: &mut ExtremeLists,
 ) -> Result<(), u32> {
     let numbers = scan_numbers(head);
-    // Every pointer goes with the length of its own list, and no two lists of `entries`, `sums` and `extremes` overlap.
+    // Every pointer goes with the length of its own list, and no two lists of `entries` and `sums` overlap.
     answered(unsafe {
         uldrevin_tally(
             &numbers,
@@ -125,10 +124,6 @@ fn tally_as_c(
             sums.value_sums.len(),
             sums.weighted_sums.as_mut_ptr(),
             sums.weighted_sums.len(),
-            extremes.least.as_mut_ptr(),
-            extremes.least.len(),
-            extremes.greatest.as_mut_ptr(),
-            extremes.greatest.len(),
         )
     })
 }
@@ -138,11 +133,10 @@ pub fn tally(
     scan: GateLists,
     entries: &mut EntryLists,
     sums: &mut SumLists,
-    extremes: &mut ExtremeLists,
 ) -> Result<(), u32> {
     match to_head(head) {
-        Some(head) => uldrevin::tally_into(head, scan, entries, sums, extremes).map_err(number),
-        None => tally_as_c(head, scan, entries, sums, extremes),
+        Some(head) => uldrevin::tally_into(head, scan, entries, sums).map_err(number),
+        None => tally_as_c(head, scan, entries, sums),
     }
 }
 

@@ -1,7 +1,6 @@
 //! Works the library and the plain program on the same drawn cases and compares all that they answer and leave.
 
 mod calls;
-mod cell_extremes;
 mod cell_sums;
 mod command;
 mod counts;

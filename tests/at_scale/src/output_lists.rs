@@ -12,8 +12,6 @@ pub struct Lengths {
     pub quality_sums: usize,
     pub value_sums: usize,
     pub weighted_sums: usize,
-    pub least: usize,
-    pub greatest: usize,
     pub means: usize,
     pub cell_qualities: usize,
 }
@@ -27,8 +25,6 @@ impl Lengths {
             quality_sums: cells,
             value_sums: cells,
             weighted_sums: cells,
-            least: cells,
-            greatest: cells,
             means: cells,
             cell_qualities: cells,
         }
@@ -36,11 +32,9 @@ impl Lengths {
 
     /// Spoils one length.
     pub fn spoil(&mut self, draw: &mut Draw) {
-        let length = match draw.below(10) {
+        let length = match draw.below(8) {
             0 => &mut self.ledger,
             1 => &mut self.marks,
-            2 => &mut self.least,
-            3 => &mut self.greatest,
             _ => return self.spoil_published(draw),
         };
         *length = draw.wrong_length(*length);
@@ -78,8 +72,6 @@ pub struct Lists {
     pub quality_sums: LentList<u32>,
     pub value_sums: LentList<u64>,
     pub weighted_sums: LentList<u64>,
-    pub least: LentList<u16>,
-    pub greatest: LentList<u16>,
     pub means: LentList<u16>,
     pub cell_qualities: LentList<u8>,
 }
@@ -89,7 +81,6 @@ impl Lists {
     pub fn new(lengths: &Lengths, margin: usize, seed: u64) -> Lists {
         let draw = &mut Draw::new(seed);
         let low_half = |bits| bits as u32;
-        let low_quarter = |bits| bits as u16;
         let low_byte = |bits| bits as u8;
         Lists {
             ledger: LentList::new(draw, margin, lengths.ledger, low_half),
@@ -98,9 +89,7 @@ impl Lists {
             quality_sums: LentList::new(draw, margin, lengths.quality_sums, low_half),
             value_sums: LentList::new(draw, margin, lengths.value_sums, |bits| bits),
             weighted_sums: LentList::new(draw, margin, lengths.weighted_sums, |bits| bits),
-            least: LentList::new(draw, margin, lengths.least, low_quarter),
-            greatest: LentList::new(draw, margin, lengths.greatest, low_quarter),
-            means: LentList::new(draw, margin, lengths.means, low_quarter),
+            means: LentList::new(draw, margin, lengths.means, |bits| bits as u16),
             cell_qualities: LentList::new(draw, margin, lengths.cell_qualities, low_byte),
         }
     }
@@ -122,8 +111,6 @@ impl Lists {
                     self.weighted_sums
                         .compare("weighted_sums", &other.weighted_sums, name)
                 })
-                .or_else(|| self.least.compare("least", &other.least, name))
-                .or_else(|| self.greatest.compare("greatest", &other.greatest, name))
                 .or_else(|| self.means.compare("means", &other.means, name))
                 .or_else(|| {
                     self.cell_qualities

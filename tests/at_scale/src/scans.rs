@@ -8,7 +8,6 @@ use crate::outcome::{compare_answers, Answer, Outcome};
 use crate::output_lists::{count_marked, Lengths, Lists};
 use crate::publishing::publish_both;
 use crate::scan_input::{scan_of, spoil, ScanInput, Shape};
-use plain_program::extremes::LentExtremes;
 use plain_program::placement::MOST_COLUMNS_OR_ROWS;
 use plain_program::scan::{tally, Entries, LentSums, BY_QUALITY, MOST_GATES, MOST_RAYS, PLAIN};
 use plain_program::sine::Tables;
@@ -78,12 +77,7 @@ fn by_plain_program(case: &Case, tables: &Tables, lists: &mut Lists) -> Result<(
         value_sums: lists.value_sums.lent(),
         weighted_sums: lists.weighted_sums.lent(),
     };
-    let extremes = LentExtremes {
-        least: lists.least.lent(),
-        greatest: lists.greatest.lent(),
-    };
-    let (head, given) = (&case.scan.head, case.scan.given());
-    tally(tables, head, given, entries, sums, extremes)
+    tally(tables, &case.scan.head, case.scan.given(), entries, sums)
 }
 
 fn by_library(case: &Case, lists: &mut Lists) -> Result<(), u32> {
@@ -97,12 +91,7 @@ fn by_library(case: &Case, lists: &mut Lists) -> Result<(), u32> {
         value_sums: lists.value_sums.lent(),
         weighted_sums: lists.weighted_sums.lent(),
     };
-    let extremes = &mut uldrevin::ExtremeLists {
-        least: lists.least.lent(),
-        greatest: lists.greatest.lent(),
-    };
-    let (head, gates) = (&case.scan.head, case.scan.gate_lists());
-    calls::tally(head, gates, entries, sums, extremes)
+    calls::tally(&case.scan.head, case.scan.gate_lists(), entries, sums)
 }
 
 /// The tally, then both sheets from the sums that it left. After a refused tally those are what the lists held before, and are published

@@ -1,11 +1,9 @@
-//! Draws of alterations by a caller: of a sweep's state, of its sums near their widths, and of its extremes.
+//! Draws of alterations by a caller: of a sweep's state, and of its sums near their widths.
 
-use crate::cell_extremes::{any_extremes, CellExtremes};
 use crate::cell_sums::CellSums;
 use crate::draw::Draw;
 use crate::scan_input::ScanInput;
 use crate::sweep_step::{number_of, Step, NUMBERS};
-use plain_program::extremes::LentExtremes;
 use plain_program::placement::{
     CORNERS, FIRST_CELLS, HRAP_KIND, LATITUDES, LONGITUDES, RADOLAN_KIND, RANGES, SIDES, SIZES,
 };
@@ -96,11 +94,7 @@ fn reached(tables: &Tables, rays: &ScanInput) -> Vec<CellSums> {
         value_sums: &mut value_sums,
         weighted_sums: &mut weighted_sums,
     };
-    let extremes = LentExtremes {
-        least: &mut vec![0; cells],
-        greatest: &mut vec![0; cells],
-    };
-    tally(tables, &rays.head, rays.given(), entries, sums, extremes).expect("good rays");
+    tally(tables, &rays.head, rays.given(), entries, sums).expect("good rays");
     let reached: BTreeSet<u32> = ledger.into_iter().filter(|&cell| cell != OUTSIDE).collect();
     let sums = |cell: usize| CellSums {
         cell,
@@ -127,18 +121,14 @@ fn near_width(draw: &mut Draw, most: u64, added: u64) -> u64 {
     }
 }
 
-/// What the rays add to one of the cells that they reach, or nothing to cell 0 where they reach none.
-fn added_somewhere(draw: &mut Draw, tables: &Tables, rays: &ScanInput) -> CellSums {
+/// Sums of a cell that the rays reach, so that one of its four widths or more are just passed or just not; or of cell 0 where they reach
+/// none.
+pub fn sums_near_a_width(draw: &mut Draw, tables: &Tables, rays: &ScanInput) -> CellSums {
     let reached = reached(tables, rays);
-    match reached.len() {
+    let added = match reached.len() {
         0 => CellSums::default(),
         _ => draw.one_of(&reached),
-    }
-}
-
-/// Sums of a cell that the rays reach, so that one of its four widths or more are just passed or just not.
-pub fn sums_near_a_width(draw: &mut Draw, tables: &Tables, rays: &ScanInput) -> CellSums {
-    let added = added_somewhere(draw, tables, rays);
+    };
     let (narrow, wide) = (u64::from(u32::MAX), u64::MAX);
     let mut altered = CellSums {
         cell: added.cell,
@@ -153,10 +143,4 @@ pub fn sums_near_a_width(draw: &mut Draw, tables: &Tables, rays: &ScanInput) -> 
         }
     }
     altered
-}
-
-/// Extremes of a cell that the rays reach, often beside their values.
-pub fn extremes_to_go_on_from(draw: &mut Draw, tables: &Tables, rays: &ScanInput) -> CellExtremes {
-    let cell = added_somewhere(draw, tables, rays).cell;
-    any_extremes(draw, cell, &rays.values)
 }

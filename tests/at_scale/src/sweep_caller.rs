@@ -4,7 +4,7 @@ use crate::cell_sums::{sums_to_publish, CellSums};
 use crate::draw::Draw;
 use crate::output_lists::Lengths;
 use crate::scan_input::{spoil_contents, spoil_lengths, spoil_number, ScanInput};
-use crate::sweep_alter::{alter_state, extremes_to_go_on_from, sums_near_a_width};
+use crate::sweep_alter::{alter_state, sums_near_a_width};
 use crate::sweep_step::Step;
 use plain_program::scan::{GATES, RAYS};
 use plain_program::sine::Tables;
@@ -34,7 +34,7 @@ pub struct Caller<'a> {
     pub exact: Lengths,
     /// Rays of the scan that were fed.
     fed: usize,
-    /// Whether the caller alters state, sums and extremes.
+    /// Whether the caller alters state and sums.
     alters: bool,
     pub steps: Vec<Step>,
 }
@@ -173,24 +173,15 @@ impl<'a> Caller<'a> {
         self.steps.push(Step::AlterSums(altered));
     }
 
-    /// Extremes of a cell or two, from which the group goes on.
-    fn alter_extremes(&mut self, draw: &mut Draw, group: &ScanInput) {
-        for _ in 0..draw.within(1..=2) {
-            let altered = extremes_to_go_on_from(draw, self.tables, group);
-            self.steps.push(Step::AlterExtremes(altered));
-        }
-    }
-
-    /// None to three calls and alterations between the good calls; most of these calls are refused.
+    /// None to three calls between the good ones, most of them refused.
     fn between(&mut self, draw: &mut Draw, next: &ScanInput) {
         let most = draw.one_of(&[0, 1, 3]);
         for _ in 0..draw.within(0..=most) {
-            match draw.below(if self.alters { 17 } else { 6 }) {
+            match draw.below(if self.alters { 14 } else { 6 }) {
                 0..=3 => self.take_refused(draw),
                 4 => self.close(draw, 4),
                 5 => self.open_refused(draw),
                 6..=9 => self.call_with_altered_state(draw),
-                10..=12 if !next.azimuths.is_empty() => self.alter_extremes(draw, next),
                 _ if !next.azimuths.is_empty() => self.take_at_a_width(draw, next),
                 _ => self.alter_sums_to_publish(draw),
             }

@@ -8,7 +8,7 @@ use plain_program::sweep::{Sweep, CLOSED, OPEN};
 use uldrevin::exports::{
     uldrevin_sweep_close, uldrevin_sweep_open, uldrevin_sweep_take, SweepNumbers,
 };
-use uldrevin::{EntryLists, ExtremeLists, GateLists, Refusal, SumLists};
+use uldrevin::{EntryLists, GateLists, Refusal, SumLists};
 
 fn sweep_numbers(sweep: &Sweep) -> SweepNumbers {
     SweepNumbers {
@@ -27,12 +27,7 @@ fn put(sweep: &mut Sweep, numbers: SweepNumbers) {
     };
 }
 
-pub fn open_as_c(
-    head: &Head,
-    sums: &mut SumLists,
-    extremes: &mut ExtremeLists,
-    sweep: &mut Sweep,
-) -> u32 {
+pub fn open_as_c(head: &Head, sums: &mut SumLists, sweep: &mut Sweep) -> u32 {
     let (scan, mut numbers) = (scan_numbers(head), sweep_numbers(sweep));
     // The structs are this function's, every pointer to numbers goes with the length of its own list, and no two overlap.
     let answer = unsafe {
@@ -46,10 +41,6 @@ pub fn open_as_c(
             sums.value_sums.len(),
             sums.weighted_sums.as_mut_ptr(),
             sums.weighted_sums.len(),
-            extremes.least.as_mut_ptr(),
-            extremes.least.len(),
-            extremes.greatest.as_mut_ptr(),
-            extremes.greatest.len(),
             &mut numbers,
         )
     };
@@ -62,7 +53,6 @@ pub fn take_as_c(
     rays: GateLists,
     entries: &mut EntryLists,
     sums: &mut SumLists,
-    extremes: &mut ExtremeLists,
 ) -> u32 {
     let mut numbers = sweep_numbers(sweep);
     // As in `open_as_c`.
@@ -87,10 +77,6 @@ pub fn take_as_c(
             sums.value_sums.len(),
             sums.weighted_sums.as_mut_ptr(),
             sums.weighted_sums.len(),
-            extremes.least.as_mut_ptr(),
-            extremes.least.len(),
-            extremes.greatest.as_mut_ptr(),
-            extremes.greatest.len(),
         )
     };
     put(sweep, numbers);
@@ -154,15 +140,10 @@ fn given(result: Result<uldrevin::Sweep, Refusal>, sweep: &mut Sweep) -> u32 {
     }
 }
 
-pub fn open(
-    head: &Head,
-    sums: &mut SumLists,
-    extremes: &mut ExtremeLists,
-    sweep: &mut Sweep,
-) -> u32 {
+pub fn open(head: &Head, sums: &mut SumLists, sweep: &mut Sweep) -> u32 {
     match to_head(head) {
-        Some(head) => given(uldrevin::Sweep::open(head, sums, extremes), sweep),
-        None => open_as_c(head, sums, extremes, sweep),
+        Some(head) => given(uldrevin::Sweep::open(head, sums), sweep),
+        None => open_as_c(head, sums, sweep),
     }
 }
 
@@ -171,11 +152,10 @@ pub fn take(
     rays: GateLists,
     entries: &mut EntryLists,
     sums: &mut SumLists,
-    extremes: &mut ExtremeLists,
 ) -> u32 {
     match to_sweep(sweep) {
-        Some(state) => given(state.take(rays, entries, sums, extremes), sweep),
-        None => take_as_c(sweep, rays, entries, sums, extremes),
+        Some(state) => given(state.take(rays, entries, sums), sweep),
+        None => take_as_c(sweep, rays, entries, sums),
     }
 }
 

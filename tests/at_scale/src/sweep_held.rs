@@ -3,7 +3,6 @@
 use crate::output_lists::Lists;
 use crate::sweep_calls;
 use crate::sweep_step::Step;
-use plain_program::extremes::LentExtremes;
 use plain_program::scan::{Entries, LentSums, Sums};
 use plain_program::sine::Tables;
 use plain_program::sweep::Sweep;
@@ -49,18 +48,14 @@ pub fn by_plain_program(step: &Step, tables: &Tables, held: &mut Held) -> u32 {
         value_sums: lists.value_sums.first(lengths.value_sums),
         weighted_sums: lists.weighted_sums.first(lengths.weighted_sums),
     };
-    let extremes = LentExtremes {
-        least: lists.least.first(lengths.least),
-        greatest: lists.greatest.first(lengths.greatest),
-    };
     let new = match step {
-        Step::Open(head, _) => Sweep::open(*head, sums, extremes),
+        Step::Open(head, _) => Sweep::open(*head, sums),
         Step::Take(group, _) => {
             let entries = Entries {
                 ledger: lists.ledger.first(lengths.ledger),
                 marks: lists.marks.first(lengths.marks),
             };
-            state.take(tables, group.given(), entries, sums, extremes)
+            state.take(tables, group.given(), entries, sums)
         }
         _ => {
             let sums = Sums {
@@ -89,10 +84,6 @@ pub fn by_library(step: &Step, as_c: bool, held: &mut Held) -> u32 {
         value_sums: lists.value_sums.first(lengths.value_sums),
         weighted_sums: lists.weighted_sums.first(lengths.weighted_sums),
     };
-    let extremes = &mut uldrevin::ExtremeLists {
-        least: lists.least.first(lengths.least),
-        greatest: lists.greatest.first(lengths.greatest),
-    };
     let entries = &mut uldrevin::EntryLists {
         ledger: lists.ledger.first(lengths.ledger),
         marks: lists.marks.first(lengths.marks),
@@ -100,13 +91,13 @@ pub fn by_library(step: &Step, as_c: bool, held: &mut Held) -> u32 {
     let means = lists.means.first(lengths.means);
     let cell_qualities = lists.cell_qualities.first(lengths.cell_qualities);
     match (step, as_c) {
-        (Step::Open(head, _), true) => sweep_calls::open_as_c(head, sums, extremes, state),
-        (Step::Open(head, _), false) => sweep_calls::open(head, sums, extremes, state),
+        (Step::Open(head, _), true) => sweep_calls::open_as_c(head, sums, state),
+        (Step::Open(head, _), false) => sweep_calls::open(head, sums, state),
         (Step::Take(group, _), true) => {
-            sweep_calls::take_as_c(state, group.gate_lists(), entries, sums, extremes)
+            sweep_calls::take_as_c(state, group.gate_lists(), entries, sums)
         }
         (Step::Take(group, _), false) => {
-            sweep_calls::take(state, group.gate_lists(), entries, sums, extremes)
+            sweep_calls::take(state, group.gate_lists(), entries, sums)
         }
         (_, true) => sweep_calls::close_as_c(state, sums, means, cell_qualities),
         (_, false) => sweep_calls::close(state, sums, means, cell_qualities),

@@ -1,6 +1,5 @@
 //! The steps of a caller who feeds a sweep: calls, and alterations of what is handed on.
 
-use crate::cell_extremes::CellExtremes;
 use crate::cell_sums::CellSums;
 use crate::output_lists::Lengths;
 use crate::scan_input::ScanInput;
@@ -64,5 +63,4 @@ pub enum Step {
     Keep,
     Restore,
     AlterSums(CellSums),
-    AlterExtremes(CellExtremes),
 }

@@ -6,7 +6,6 @@ use crate::output_lists::{Lengths, Lists};
 use crate::publishing;
 use crate::scan_input::ScanInput;
 use crate::sweep_held::Held;
-use plain_program::extremes::{NO_GREATEST, NO_LEAST};
 use plain_program::scan::{Head, BY_QUALITY, PLAIN};
 use plain_program::sweep::{Sweep, OPEN};
 use std::fmt::Debug;
@@ -44,7 +43,7 @@ impl Untouched {
         self.taken.qualities.extend(&group.qualities);
     }
 
-    /// What the library tallies of the whole scan of these rays; with no ray, sums of 0 and the extremes of empty cells.
+    /// What the library tallies of the whole scan of these rays; with no ray, sums of 0.
     fn whole(&self) -> Result<Lists, u32> {
         let cells = (self.head.grid.columns * self.head.grid.rows) as usize;
         let lengths = Lengths::exact(self.taken.values.len(), cells);
@@ -59,25 +58,18 @@ impl Untouched {
             value_sums: lists.value_sums.lent(),
             weighted_sums: lists.weighted_sums.lent(),
         };
-        let extremes = &mut uldrevin::ExtremeLists {
-            least: lists.least.lent(),
-            greatest: lists.greatest.lent(),
-        };
         if self.taken.azimuths.is_empty() {
             sums.counts.fill(0);
             sums.quality_sums.fill(0);
             sums.value_sums.fill(0);
             sums.weighted_sums.fill(0);
-            extremes.least.fill(NO_LEAST);
-            extremes.greatest.fill(NO_GREATEST);
         } else {
-            let (head, rays) = (&self.taken.head, self.taken.gate_lists());
-            calls::tally(head, rays, entries, sums, extremes)?;
+            calls::tally(&self.taken.head, self.taken.gate_lists(), entries, sums)?;
         }
         Ok(lists)
     }
 
-    /// Ledger, marks, sums and extremes against those of the whole scan, entries and marks of rays not taken against those at opening.
+    /// Ledger, marks and sums against those of the whole scan, entries and marks of rays not taken against those at opening.
     fn compare_tallied(&self, lists: &Lists, whole: &Lists) -> Option<String> {
         let ledger = put_before(&whole.ledger, &self.lists.ledger);
         let marks = put_before(&whole.marks, &self.lists.marks);
@@ -87,8 +79,6 @@ impl Untouched {
             .or_else(|| same("quality_sums", &lists.quality_sums, &whole.quality_sums))
             .or_else(|| same("value_sums", &lists.value_sums, &whole.value_sums))
             .or_else(|| same("weighted_sums", &lists.weighted_sums, &whole.weighted_sums))
-            .or_else(|| same("least", &lists.least, &whole.least))
-            .or_else(|| same("greatest", &lists.greatest, &whole.greatest))
     }
 
     /// Compares what the sweep left with the whole scan. The cells before closing are those at opening.

@@ -53,13 +53,12 @@ impl<'a> Run<'a> {
                 Step::AlterState(name, number) => *number_of(&mut held.state, name) = number,
                 Step::Restore => held.state = self.kept,
                 Step::AlterSums(sums) => sums.put(&mut held.lists),
-                Step::AlterExtremes(extremes) => extremes.put(&mut held.lists),
                 _ => {}
             }
         }
         match step {
             Step::Keep => self.kept = self.plain.state,
-            Step::AlterSums(_) | Step::AlterExtremes(_) => self.untouched = None,
+            Step::AlterSums(_) => self.untouched = None,
             _ => {}
         }
     }

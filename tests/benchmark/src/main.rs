@@ -4,7 +4,7 @@
 //!
 //! Every round works the whole scan, publishing plain besides, and the same by the plain program, for the scan of the full size the sweeps,
 //! every tenth the single calls too, and the best round of each counts. Nothing is asserted about speed; before anything is timed, the
-//! ledgers, marks, sums, extremes and cells of both weightings have to be the same.
+//! ledgers, marks, sums and cells of both weightings have to be the same.
 
 mod measure;
 mod one_call;

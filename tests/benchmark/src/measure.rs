@@ -7,9 +7,7 @@ use std::time::{Duration, Instant};
 
 use plain_program::scan::{BY_QUALITY, PLAIN};
 use plain_program::sine::Tables;
-use uldrevin::{
-    place, publish_into, tally_into, Cells, Extremes, Refusal, Sums, Weighting, OUTSIDE,
-};
+use uldrevin::{place, publish_into, tally_into, Cells, Refusal, Sums, Weighting, OUTSIDE};
 
 use crate::pipeline::{self, Pipeline};
 use crate::plain;
@@ -53,13 +51,12 @@ fn number(answer: Result<(), Refusal>) -> u32 {
 }
 
 fn tally(scene: &Scene, lists: &mut Lists) -> u32 {
-    let (entries, sums, extremes, _) = &mut lists.lent();
-    let gates = scene.gate_lists();
-    number(tally_into(scene.head, gates, entries, sums, extremes))
+    let (entries, sums, _) = &mut lists.lent();
+    number(tally_into(scene.head, scene.gate_lists(), entries, sums))
 }
 
 fn publish(weighting: Weighting, lists: &mut Lists) -> u32 {
-    let (_, sums, _, cells) = lists.lent();
+    let (_, sums, cells) = lists.lent();
     let (means, cell_qualities) = (&mut cells.means, &mut cells.cell_qualities);
     number(publish_into(weighting, &sums, means, cell_qualities))
 }
@@ -120,11 +117,6 @@ fn same_sums(whole: &Sums, other: &Sums, who: &str) {
     same("weighted sum", weighted, others, who);
 }
 
-fn same_extremes(whole: &Extremes, other: &Extremes, who: &str) {
-    same("least", &whole.least, &other.least, who);
-    same("greatest", &whole.greatest, &other.greatest, who);
-}
-
 fn same_cells(whole: &Cells, other: &Cells, who: &str) {
     same("mean", &whole.means, &other.means, who);
     same("quality", &whole.cell_qualities, &other.cell_qualities, who);
@@ -139,7 +131,6 @@ fn same_entries(whole: &Lists, other: &Lists, who: &str) {
 fn same_lists(whole: &Lists, other: &Lists, who: &str) {
     same_entries(whole, other, who);
     same_sums(&whole.tally.sums, &other.tally.sums, who);
-    same_extremes(&whole.tally.extremes, &other.tally.extremes, who);
     same_cells(&whole.cells, &other.cells, who);
 }
 

@@ -1,7 +1,6 @@
 //! The plain program on the same scene and lists.
 
 use at_scale::library::from_head;
-use plain_program::extremes::LentExtremes;
 use plain_program::scan::{self, Entries, Given, LentSums, Sums};
 use plain_program::sine::Tables;
 
@@ -24,12 +23,7 @@ pub fn tally(tables: &Tables, scene: &Scene, lists: &mut Lists) -> Result<(), u3
         value_sums: &mut tally.sums.value_sums,
         weighted_sums: &mut tally.sums.weighted_sums,
     };
-    let extremes = LentExtremes {
-        least: &mut tally.extremes.least,
-        greatest: &mut tally.extremes.greatest,
-    };
-    let head = from_head(scene.head);
-    scan::tally(tables, &head, given, entries, sums, extremes)
+    scan::tally(tables, &from_head(scene.head), given, entries, sums)
 }
 
 pub fn publish(weighting: i64, lists: &mut Lists) -> Result<(), u32> {

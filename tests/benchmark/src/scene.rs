@@ -1,8 +1,8 @@
 //! The scans that are measured: one site and one grid, more or fewer gates.
 
 use uldrevin::{
-    place, Cells, EntryLists, ExtremeLists, Extremes, GateLists, Grid, HrapGrid, RadolanGrid,
-    ScanHead, Site, SumLists, Sums, Tally, Weighting,
+    place, Cells, EntryLists, GateLists, Grid, HrapGrid, RadolanGrid, ScanHead, Site, SumLists,
+    Sums, Tally, Weighting,
 };
 
 const MESH_SIDE: i64 = 476_250;
@@ -32,15 +32,13 @@ pub struct Lists {
 }
 
 impl Lists {
-    pub fn lent(&mut self) -> (EntryLists<'_>, SumLists<'_>, ExtremeLists<'_>, &mut Cells) {
+    pub fn lent(&mut self) -> (EntryLists<'_>, SumLists<'_>, &mut Cells) {
         let Tally {
             ledger,
             marks,
             sums,
-            extremes,
         } = &mut self.tally;
-        let entries = EntryLists { ledger, marks };
-        (entries, sums.lists(), extremes.lists(), &mut self.cells)
+        (EntryLists { ledger, marks }, sums.lists(), &mut self.cells)
     }
 }
 
@@ -56,10 +54,6 @@ pub fn lists_of(scene: &Scene) -> Lists {
                 quality_sums: vec![1; cells],
                 value_sums: vec![1; cells],
                 weighted_sums: vec![1; cells],
-            },
-            extremes: Extremes {
-                least: vec![1; cells],
-                greatest: vec![1; cells],
             },
         },
         cells: Cells {

@@ -40,12 +40,12 @@ fn print_records() {
 /// All rays are taken at once.
 fn print_sweep(scene: &Scene) {
     let (head, mut lists) = (scene.head, lists_of(scene));
-    let (entries, sums, extremes, cells) = &mut lists.lent();
+    let (entries, sums, cells) = &mut lists.lent();
     let good = "a good scan";
-    let mut sweep = Sweep::open(head, sums, extremes).expect(good);
-    let opened = used(|| sweep = Sweep::open(head, sums, extremes).expect(good));
+    let mut sweep = Sweep::open(head, sums).expect(good);
+    let opened = used(|| sweep = Sweep::open(head, sums).expect(good));
     let rays = scene.gate_lists();
-    let taken = used(|| sweep = sweep.take(rays, entries, sums, extremes).expect(good));
+    let taken = used(|| sweep = sweep.take(rays, entries, sums).expect(good));
     let (means, cell_qualities) = (&mut cells.means, &mut cells.cell_qualities);
     let closed = used(|| sweep.close(sums, means, cell_qualities).expect(good));
     print_row("Sweep::open", opened);
@@ -61,8 +61,8 @@ pub fn print_stack(scene: &Scene) {
     println!("|---|---|");
     print_row("sine", used(|| sine(black_box(1))));
     print_row("place", used(|| place(head.site, head.grid, 5, 5)));
-    let (entries, sums, extremes, cells) = &mut lists.lent();
-    let tallied = used(|| tally_into(head, scene.gate_lists(), entries, sums, extremes));
+    let (entries, sums, cells) = &mut lists.lent();
+    let tallied = used(|| tally_into(head, scene.gate_lists(), entries, sums));
     let (means, cell_qualities) = (&mut cells.means, &mut cells.cell_qualities);
     let published = used(|| publish_into(head.weighting, sums, means, cell_qualities));
     print_row("tally_into", tallied);

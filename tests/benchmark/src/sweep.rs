@@ -21,10 +21,10 @@ fn groups(scene: &Scene, rays: usize) -> impl Iterator<Item = GateLists<'_>> {
 }
 
 fn sweep(scene: &Scene, rays: usize, lists: &mut Lists) -> Result<Sweep, Refusal> {
-    let (entries, sums, extremes, cells) = &mut lists.lent();
-    let mut sweep = Sweep::open(scene.head, sums, extremes)?;
+    let (entries, sums, cells) = &mut lists.lent();
+    let mut sweep = Sweep::open(scene.head, sums)?;
     for group in groups(scene, rays) {
-        sweep = sweep.take(group, entries, sums, extremes)?;
+        sweep = sweep.take(group, entries, sums)?;
     }
     sweep.close(sums, &mut cells.means, &mut cells.cell_qualities)
 }

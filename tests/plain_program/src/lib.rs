@@ -1,10 +1,9 @@
-//! The rules of document 01 and of T-01, T-02, T-05 and T-06 in document 02 in plain Rust, written from these alone. No code is shared
-//! with the library.
+//! The rules of document 01 and of T-01, T-02 and T-05 in document 02 in plain Rust, written from these alone. No code is shared with
+//! the library.
 //!
 //! - `sine`: the tables S, F and G, and sine and cosine of any angle
 //! - `placement`: a gate to its position, its cell and T-02's mark, and the refusals of one gate
-//! - `extremes`: T-06's least and greatest value of each cell
-//! - `scan`: a whole scan tallied to its ledger, marks, sums and extremes, and the refusals of a scan; cells published from sums
+//! - `scan`: a whole scan tallied to its ledger, marks and sums, and the refusals of a scan; cells published from sums
 //! - `record`: a scan record read and written, and the refusals of a record
 //! - `sweep`: T-01's scan that is opened, fed with rays and closed, and its refusals
 //!
@@ -13,7 +12,6 @@
 
 #[cfg(test)]
 mod example;
-pub mod extremes;
 pub mod placement;
 pub mod record;
 pub mod scan;

@@ -1,9 +1,8 @@
-//! Document 01, "The scan" and "Ledger and cells", T-02, T-05 and T-06: a whole scan is tallied to its ledger, marks, sums and extremes,
-//! and cells are published from sums.
+//! Document 01, "The scan" and "Ledger and cells", T-02 and T-05: a whole scan is tallied to its ledger, marks and sums, and cells are
+//! published from sums.
 //!
 //! What the site decides is worked once a scan, what the azimuth decides once a ray, and what the range decides once a gate number.
 
-use crate::extremes::LentExtremes;
 use crate::placement::{
     arc, check_grid, check_site, pair, Grid, Site, Sphere, Survey, Window, AZIMUTHS, HRAP, RADOLAN,
     RADOLAN_KIND, RANGES,
@@ -172,13 +171,7 @@ pub(crate) fn check_contents(
     Ok(())
 }
 
-fn check(
-    head: &Head,
-    given: Given,
-    entries: &Entries,
-    sums: Sums,
-    extremes: &LentExtremes,
-) -> Result<(), u32> {
+fn check(head: &Head, given: Given, entries: &Entries, sums: Sums) -> Result<(), u32> {
     check_head(head)?;
     check_gate_lengths(
         head,
@@ -188,7 +181,6 @@ fn check(
     )?;
     check_entries(head, entries)?;
     check_sums(cell_length(head.grid), sums)?;
-    extremes.check(cell_length(head.grid))?;
     check_contents(given.azimuths.iter().copied(), given.qualities)
 }
 
@@ -229,32 +221,25 @@ pub(crate) fn entries_of(tables: &Tables, head: &Head, azimuths: &[u32], entries
 }
 
 /// What a measured gate counts.
-fn echo(value: u16) -> u16 {
+pub(crate) fn echo(value: u16) -> u16 {
     match value {
         NO_ECHO => 0,
         _ => value,
     }
 }
 
-/// The cell, what the value counts and the quality of each measured gate inside.
-pub(crate) fn measured_inside<'a>(
-    ledger: &'a [u32],
-    given: Given<'a>,
-) -> impl Iterator<Item = (usize, u16, u8)> + 'a {
-    let gates = ledger.iter().zip(given.values).zip(given.qualities);
-    gates
-        .filter(|((&entry, &value), _)| entry != OUTSIDE && value != NOT_MEASURED)
-        .map(|((&entry, &value), &quality)| (entry as usize, echo(value), quality))
-}
-
-/// Adds the measured gates inside to the sums of their cells, and counts them into the extremes.
-fn add_gates(ledger: &[u32], given: Given, sums: LentSums, mut extremes: LentExtremes) {
-    for (cell, counted, quality) in measured_inside(ledger, given) {
+/// Adds the measured gates inside to the sums of their cells.
+fn add_gates(ledger: &[u32], given: Given, sums: LentSums) {
+    for ((&entry, &value), &quality) in ledger.iter().zip(given.values).zip(given.qualities) {
+        if entry == OUTSIDE || value == NOT_MEASURED {
+            continue;
+        }
+        let cell = entry as usize;
+        let counted = u64::from(echo(value));
         sums.counts[cell] += 1;
         sums.quality_sums[cell] += u32::from(quality);
-        sums.value_sums[cell] += u64::from(counted);
-        sums.weighted_sums[cell] += u64::from(counted) * u64::from(quality);
-        extremes.widen(cell, counted);
+        sums.value_sums[cell] += counted;
+        sums.weighted_sums[cell] += counted * u64::from(quality);
     }
 }
 
@@ -266,9 +251,8 @@ pub fn tally(
     given: Given,
     entries: Entries,
     mut sums: LentSums,
-    mut extremes: LentExtremes,
 ) -> Result<(), u32> {
-    check(head, given, &entries, sums.read(), &extremes)?;
+    check(head, given, &entries, sums.read())?;
     let Entries { ledger, marks } = entries;
     let filled = Entries {
         ledger: &mut *ledger,
@@ -276,8 +260,7 @@ pub fn tally(
     };
     entries_of(tables, head, given.azimuths, filled);
     sums.clear();
-    extremes.clear();
-    add_gates(ledger, given, sums, extremes);
+    add_gates(ledger, given, sums);
     Ok(())
 }
 
@@ -322,7 +305,6 @@ pub fn publish(
 mod tests {
     use super::*;
     use crate::example::EXAMPLE;
-    use crate::extremes::{NO_GREATEST, NO_LEAST};
 
     /// The lists of two gates and two cells.
     #[derive(Clone, Debug, PartialEq)]
@@ -332,8 +314,6 @@ mod tests {
         quality_sums: [u32; 2],
         value_sums: [u64; 2],
         weighted_sums: [u64; 2],
-        least: [u16; 2],
-        greatest: [u16; 2],
         means: [u16; 2],
         cell_qualities: [u8; 2],
     }
@@ -344,8 +324,6 @@ mod tests {
         quality_sums: [9; 2],
         value_sums: [9; 2],
         weighted_sums: [9; 2],
-        least: [9; 2],
-        greatest: [9; 2],
         means: [9; 2],
         cell_qualities: [9; 2],
     };
@@ -374,11 +352,7 @@ mod tests {
             value_sums: &mut lists.value_sums,
             weighted_sums: &mut lists.weighted_sums,
         };
-        let extremes = LentExtremes {
-            least: &mut lists.least,
-            greatest: &mut lists.greatest,
-        };
-        tally(&Tables::new(), head, given, entries, sums, extremes)
+        tally(&Tables::new(), head, given, entries, sums)
     }
 
     /// Mean and quality of cell 1.
@@ -414,7 +388,7 @@ mod tests {
     }
 
     #[test]
-    fn sums_and_extremes_of_a_tally() {
+    fn sums_of_a_tally() {
         let mut lists = BEFORE;
         let answer = tally_into(&EXAMPLE, &[0], [1, 7], [90, 10], &mut [9; 2], &mut lists);
         let after = Lists {
@@ -423,36 +397,9 @@ mod tests {
             quality_sums: [0, 100],
             value_sums: [0, 8],
             weighted_sums: [0, 160],
-            least: [NO_LEAST, 1],
-            greatest: [NO_GREATEST, 7],
             ..BEFORE
         };
         assert_eq!((answer, lists), (Ok(()), after));
-    }
-
-    /// Least and greatest of the cell that has both gates.
-    fn extremes_of(values: [u16; 2], qualities: [u8; 2]) -> (u16, u16) {
-        let mut lists = BEFORE;
-        let answer = tally_into(&EXAMPLE, &[0], values, qualities, &mut [9; 2], &mut lists);
-        assert_eq!(answer, Ok(()));
-        (lists.least[1], lists.greatest[1])
-    }
-
-    #[test]
-    fn least_and_greatest() {
-        assert_eq!(extremes_of([7, 1], [90, 10]), (1, 7));
-        assert_eq!(extremes_of([7, 1], [0, 0]), (1, 7));
-        assert_eq!(extremes_of([NO_ECHO, 7], [1, 2]), (0, 7));
-        assert_eq!(extremes_of([NO_ECHO, NO_ECHO], [1, 2]), (0, 0));
-        assert_eq!(extremes_of([65_533, 65_532], [1, 2]), (65_532, 65_533));
-        assert_eq!(
-            extremes_of([65_533, NOT_MEASURED], [1, 2]),
-            (65_533, 65_533)
-        );
-        assert_eq!(
-            extremes_of([NOT_MEASURED; 2], [1, 2]),
-            (NO_LEAST, NO_GREATEST)
-        );
     }
 
     fn answer(head: Head) -> Result<(), u32> {
@@ -669,12 +616,12 @@ mod tests {
     }
 
     #[test]
-    fn lengths_of_the_cell_lists() {
-        for place in 0..6 {
+    fn lengths_of_the_sums() {
+        for place in 0..4 {
             for wrong in [1, 3] {
-                let mut lengths = [2; 6];
+                let mut lengths = [2; 4];
                 lengths[place] = wrong;
-                let [counts, quality_sums, value_sums, weighted_sums, least, greatest] = lengths;
+                let [counts, quality_sums, value_sums, weighted_sums] = lengths;
                 let given = Given {
                     azimuths: &[0],
                     values: &[1, 7],
@@ -690,11 +637,7 @@ mod tests {
                     value_sums: &mut vec![9; value_sums],
                     weighted_sums: &mut vec![9; weighted_sums],
                 };
-                let extremes = LentExtremes {
-                    least: &mut vec![9; least],
-                    greatest: &mut vec![9; greatest],
-                };
-                let answer = tally(&Tables::new(), &EXAMPLE, given, entries, sums, extremes);
+                let answer = tally(&Tables::new(), &EXAMPLE, given, entries, sums);
                 assert_eq!(answer, Err(6));
             }
         }

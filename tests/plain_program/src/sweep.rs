@@ -1,14 +1,13 @@
 //! Document 02, T-01: a scan that is opened, fed with one ray or several at a time, and closed. T-02's marks go with the ledger, and
-//! both value sums of T-05 and the extremes of T-06 are kept, whatever the weighting.
+//! both value sums of T-05 are kept, whatever the weighting.
 //!
 //! Each operation takes the state by value and gives the new one. The totals of a group are worked out in wide numbers, and nothing is
 //! written before every refusal has been ruled out.
 
-use crate::extremes::LentExtremes;
 use crate::placement::{Grid, HRAP_KIND, HRAP_SIDE};
 use crate::scan::{
-    cell_length, check_cells, check_contents, check_head, check_sums, entries_of, measured_inside,
-    publish, Entries, Given, Head, LentSums, Sums, BY_QUALITY, OUTSIDE, PLAIN,
+    cell_length, check_cells, check_contents, check_head, check_sums, echo, entries_of, publish,
+    Entries, Given, Head, LentSums, Sums, BY_QUALITY, NOT_MEASURED, OUTSIDE, PLAIN,
 };
 use crate::sine::Tables;
 use std::collections::BTreeMap;
@@ -77,9 +76,12 @@ struct Added {
 /// What a group adds to each cell that it reaches.
 fn added_by(ledger: &[u32], given: Given) -> BTreeMap<usize, Added> {
     let mut cells: BTreeMap<usize, Added> = BTreeMap::new();
-    for (cell, counted, quality) in measured_inside(ledger, given) {
-        let (counted, quality) = (u128::from(counted), u128::from(quality));
-        let added = cells.entry(cell).or_default();
+    for ((&entry, &value), &quality) in ledger.iter().zip(given.values).zip(given.qualities) {
+        if entry == OUTSIDE || value == NOT_MEASURED {
+            continue;
+        }
+        let (counted, quality) = (u128::from(echo(value)), u128::from(quality));
+        let added = cells.entry(entry as usize).or_default();
         added.count += 1;
         added.quality += quality;
         added.value += counted;
@@ -112,13 +114,11 @@ fn grown(sums: Sums, cell: usize, added: Added) -> Result<Grown, u32> {
 }
 
 impl Sweep {
-    /// Clears the sums and the extremes and gives a state with no ray taken. Refusals 1 to 6.
-    pub fn open(head: Head, mut sums: LentSums, mut extremes: LentExtremes) -> Result<Sweep, u32> {
+    /// Clears the sums and gives a state with no ray taken. Refusals 1 to 6.
+    pub fn open(head: Head, mut sums: LentSums) -> Result<Sweep, u32> {
         check_head(&head)?;
         check_sums(cell_length(head.grid), sums.read())?;
-        extremes.check(cell_length(head.grid))?;
         sums.clear();
-        extremes.clear();
         Ok(Sweep {
             head: in_plain_form(head),
             taken: 0,
@@ -138,13 +138,7 @@ impl Sweep {
     }
 
     /// Refusal 6 for a group and what it is written to.
-    fn check_group(
-        &self,
-        given: Given,
-        lent: &Entries,
-        sums: Sums,
-        extremes: &LentExtremes,
-    ) -> Result<(), u32> {
+    fn check_group(&self, given: Given, lent: &Entries, sums: Sums) -> Result<(), u32> {
         let (rays, gates) = (given.azimuths.len(), self.head.gates as usize);
         let exact = rays >= 1
             && given.values.len() == rays * gates
@@ -154,8 +148,7 @@ impl Sweep {
         if !exact {
             return Err(6);
         }
-        check_sums(cell_length(self.head.grid), sums)?;
-        extremes.check(cell_length(self.head.grid))
+        check_sums(cell_length(self.head.grid), sums)
     }
 
     /// Takes the rays of a group. Refusals 19, 17, 1 to 8, 31.
@@ -165,10 +158,9 @@ impl Sweep {
         given: Given,
         lent: Entries,
         sums: LentSums,
-        mut extremes: LentExtremes,
     ) -> Result<Sweep, u32> {
         self.check_numbers(given.azimuths.len())?;
-        self.check_group(given, &lent, sums.read(), &extremes)?;
+        self.check_group(given, &lent, sums.read())?;
         check_contents(given.azimuths.iter().copied(), given.qualities)?;
         let (ledger, marks) = group_entries(tables, &self.head, given);
         let grown: Vec<_> = added_by(&ledger, given)
@@ -180,9 +172,6 @@ impl Sweep {
             sums.quality_sums[cell] = grown.quality;
             sums.value_sums[cell] = grown.value;
             sums.weighted_sums[cell] = grown.weighted;
-        }
-        for (cell, counted, _) in measured_inside(&ledger, given) {
-            extremes.widen(cell, counted);
         }
         let first = (self.taken * self.head.gates) as usize;
         lent.ledger[first..][..ledger.len()].copy_from_slice(&ledger);
@@ -221,8 +210,7 @@ impl Sweep {
 mod tests {
     use super::*;
     use crate::example::EXAMPLE;
-    use crate::extremes::NO_LEAST;
-    use crate::scan::{NOT_MEASURED, NO_ECHO, NO_MEAN};
+    use crate::scan::NO_MEAN;
 
     /// Both gates of a ray lie in cell 1.
     const TWO_RAYS: Head = Head { rays: 2, ..EXAMPLE };
@@ -235,8 +223,6 @@ mod tests {
         quality_sums: [u32; 2],
         value_sums: [u64; 2],
         weighted_sums: [u64; 2],
-        least: [u16; 2],
-        greatest: [u16; 2],
         means: [u16; 2],
         cell_qualities: [u8; 2],
     }
@@ -248,8 +234,6 @@ mod tests {
         quality_sums: [9; 2],
         value_sums: [9; 2],
         weighted_sums: [9; 2],
-        least: [9; 2],
-        greatest: [9; 2],
         means: [9; 2],
         cell_qualities: [9; 2],
     };
@@ -261,11 +245,7 @@ mod tests {
             value_sums: &mut lists.value_sums,
             weighted_sums: &mut lists.weighted_sums,
         };
-        let extremes = LentExtremes {
-            least: &mut lists.least,
-            greatest: &mut lists.greatest,
-        };
-        Sweep::open(head, sums, extremes)
+        Sweep::open(head, sums)
     }
 
     fn take(sweep: Sweep, given: Given, lists: &mut Lists) -> Result<Sweep, u32> {
@@ -275,15 +255,11 @@ mod tests {
             value_sums: &mut lists.value_sums,
             weighted_sums: &mut lists.weighted_sums,
         };
-        let extremes = LentExtremes {
-            least: &mut lists.least,
-            greatest: &mut lists.greatest,
-        };
         let entries = Entries {
             ledger: &mut lists.ledger,
             marks: &mut lists.marks,
         };
-        sweep.take(&Tables::new(), given, entries, sums, extremes)
+        sweep.take(&Tables::new(), given, entries, sums)
     }
 
     fn close(sweep: Sweep, lists: &mut Lists) -> Result<Sweep, u32> {
@@ -337,7 +313,6 @@ mod tests {
         assert_eq!(lists.marks, [1, 0, 1, 0]);
         assert_eq!((lists.counts, lists.quality_sums), ([0, 4], [0, 200]));
         assert_eq!((lists.value_sums, lists.weighted_sums), ([0, 16], [0, 320]));
-        assert_eq!((lists.least, lists.greatest), ([NO_LEAST, 1], [0, 7]));
         assert_eq!((lists.means, lists.cell_qualities), ([NO_MEAN, 1], [0, 50]));
         let mut at_once = BEFORE;
         let opened = open(TWO_RAYS, &mut at_once).unwrap();
@@ -413,12 +388,7 @@ mod tests {
                 value_sums: &mut lists.value_sums,
                 weighted_sums: &mut lists.weighted_sums,
             };
-            let extremes = LentExtremes {
-                least: &mut lists.least,
-                greatest: &mut lists.greatest,
-            };
-            let entries = Entries { ledger, marks };
-            let taken = sweep.take(&Tables::new(), RAY, entries, sums, extremes);
+            let taken = sweep.take(&Tables::new(), RAY, Entries { ledger, marks }, sums);
             taken.map(|sweep| sweep.taken)
         };
         assert_eq!(answer(&mut [9; 4], &mut [9; 4]), Ok(2));
@@ -427,44 +397,6 @@ mod tests {
             assert_eq!(answer(&mut ledger, &mut [9; 4]), Err(6));
             assert_eq!(answer(&mut [9; 4], &mut marks), Err(6));
             assert!(ledger.iter().all(|&entry| entry == 9) && marks.iter().all(|&mark| mark == 9));
-        }
-    }
-
-    /// The answers to opening and to taking a ray with other lists of extremes, which a refusal leaves.
-    fn with_extremes(least: usize, greatest: usize) -> [Option<u32>; 2] {
-        [true, false].map(|opens| {
-            let (sweep, mut lists) = half();
-            let sums = LentSums {
-                counts: &mut lists.counts,
-                quality_sums: &mut lists.quality_sums,
-                value_sums: &mut lists.value_sums,
-                weighted_sums: &mut lists.weighted_sums,
-            };
-            let entries = Entries {
-                ledger: &mut lists.ledger,
-                marks: &mut lists.marks,
-            };
-            let (mut least, mut greatest) = (vec![9; least], vec![0; greatest]);
-            let before = (least.clone(), greatest.clone());
-            let extremes = LentExtremes {
-                least: &mut least,
-                greatest: &mut greatest,
-            };
-            let answer = match opens {
-                true => Sweep::open(TWO_RAYS, sums, extremes),
-                false => sweep.take(&Tables::new(), RAY, entries, sums, extremes),
-            };
-            assert_eq!((least, greatest) == before, answer.is_err());
-            answer.err()
-        })
-    }
-
-    #[test]
-    fn lengths_of_the_extremes() {
-        assert_eq!(with_extremes(2, 2), [None; 2]);
-        for length in [0, 1, 3] {
-            assert_eq!(with_extremes(length, 2), [Some(6); 2]);
-            assert_eq!(with_extremes(2, length), [Some(6); 2]);
         }
     }
 
@@ -549,36 +481,6 @@ mod tests {
             take(opened, BOTH, &mut lists).unwrap();
             assert_eq!((lists.value_sums[1], lists.weighted_sums[1]), (16, 320));
         }
-    }
-
-    /// Least and greatest of cell 1 after a ray, with these held before.
-    fn extremes_from(held: (u16, u16), values: [u16; 2]) -> (u16, u16) {
-        let (sweep, mut lists) = half();
-        (lists.least[1], lists.greatest[1]) = held;
-        let ray = Given {
-            values: &values,
-            ..RAY
-        };
-        take(sweep, ray, &mut lists).unwrap();
-        (lists.least[1], lists.greatest[1])
-    }
-
-    #[test]
-    fn extremes_go_on_from_what_is_held() {
-        assert_eq!(extremes_from((1, 7), [3, 5]), (1, 7));
-        assert_eq!(extremes_from((4, 4), [5, 3]), (3, 5));
-        assert_eq!(extremes_from((1, 7), [NO_ECHO, 9]), (0, 9));
-        assert_eq!(extremes_from((9, 2), [5, 5]), (5, 5));
-        assert_eq!(extremes_from((9, 2), [NOT_MEASURED; 2]), (9, 2));
-        assert_eq!(
-            extremes_from((NO_LEAST, 0), [NOT_MEASURED; 2]),
-            (NO_LEAST, 0)
-        );
-        assert_eq!(extremes_from((0, 65_535), [5, 65_533]), (0, 65_535));
-        assert_eq!(
-            extremes_from((65_534, 65_534), [65_533; 2]),
-            (65_533, 65_534)
-        );
     }
 
     /// Mean and quality of cell 1 from altered sums, in the weighting.

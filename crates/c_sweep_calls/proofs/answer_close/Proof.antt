@@ -18,10 +18,10 @@ answer-sweep-requires : tie.Need-answer-sweep-requires
 answer-sweep-requires c κs = search rules
 
 same_length : tie.Need-same-length
-same_length c = c.before.before.before.before.before.means.given
+same_length c = search rules
 
 same-length-2 : tie.Need-same-length-2
-same-length-2 c = c.before.before.before.cell-qualities.given
+same-length-2 c = search rules
 
 returns : tie.Need-returns
 returns c =

@@ -18,30 +18,24 @@ answer-sweep-requires : tie.Need-answer-sweep-requires
 answer-sweep-requires c κs = search rules
 
 same_length : tie.Need-same-length
-same_length c = c.before.before.before.before.before.before.before.before.before.before.before.before.before.counts.given
+same_length c = search rules
 
 same-length-2 : tie.Need-same-length-2
-same-length-2 c = c.before.before.before.before.before.before.before.before.before.before.before.quality-sums.given
+same-length-2 c = search rules
 
 same-length-3 : tie.Need-same-length-3
-same-length-3 c = c.before.before.before.before.before.before.before.before.before.value-sums.given
+same-length-3 c = search rules
 
 same-length-4 : tie.Need-same-length-4
-same-length-4 c = c.before.before.before.before.before.before.before.weighted-sums.given
-
-same-length-5 : tie.Need-same-length-5
-same-length-5 c = c.before.before.before.before.before.least.given
-
-same-length-6 : tie.Need-same-length-6
-same-length-6 c = c.before.before.before.greatest.given
+same-length-4 c = search rules
 
 returns : tie.Need-returns
 returns c =
     let answer-sweep-call = c.answer-sweep in
-    let told = rw c.before.before.before.before.before.before.before.before.before.before.before.before.before.before.before.before.before.before.before.before.before.head_of.ensures at c.before.before.before.before.before.before.before.before.before.before.before.before.before.before.«open».ensures in
+    let told = rw c.before.before.before.before.before.before.before.before.before.before.before.before.before.before.before.head_of.ensures at c.before.before.before.before.before.before.before.before.before.before.«open».ensures in
     record {
       the_number = answer-sweep-call.ensures.0 ∙ ap number_in told.the_answer ∙ number_in_lem _ _;
-      the_lent = (λ i. record { sweep = (answer-sweep-call.ensures.1 ∙ ap (sweep_left _) told.the_answer ∙ sweep_left_lem _ _ _) i; lists = told.the_lists i }) ∙ both_left _ _ _;
+      the_lent = (λ i. record { sweep = (answer-sweep-call.ensures.1 ∙ ap (sweep_left _) told.the_answer ∙ sweep_left_lem _ _ _) i; lists = told.the_sums i }) ∙ both_left _ _ _;
     }
 
 pub answer-open-spec : {M : Type 1} → statement M
@@ -55,6 +49,4 @@ answer-open-spec =
     same-length-2
     same-length-3
     same-length-4
-    same-length-5
-    same-length-6
     returns)

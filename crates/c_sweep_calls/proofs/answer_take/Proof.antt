@@ -18,33 +18,27 @@ answer-sweep-requires : tie.Need-answer-sweep-requires
 answer-sweep-requires c κs = search rules
 
 same_length : tie.Need-same-length
-same_length c = c.before.before.before.before.before.before.before.before.before.before.before.before.before.before.before.before.before.ledger.given
+same_length c = search rules
 
 same-length-2 : tie.Need-same-length-2
-same-length-2 c = c.before.before.before.before.before.before.before.before.before.before.before.before.before.before.before.marks.given
+same-length-2 c = search rules
 
 same-length-3 : tie.Need-same-length-3
-same-length-3 c = c.before.before.before.before.before.before.before.before.before.before.before.before.before.counts.given
+same-length-3 c = search rules
 
 same-length-4 : tie.Need-same-length-4
-same-length-4 c = c.before.before.before.before.before.before.before.before.before.before.before.quality-sums.given
+same-length-4 c = search rules
 
 same-length-5 : tie.Need-same-length-5
-same-length-5 c = c.before.before.before.before.before.before.before.before.before.value-sums.given
+same-length-5 c = search rules
 
 same-length-6 : tie.Need-same-length-6
-same-length-6 c = c.before.before.before.before.before.before.before.weighted-sums.given
-
-same-length-7 : tie.Need-same-length-7
-same-length-7 c = c.before.before.before.before.before.least.given
-
-same-length-8 : tie.Need-same-length-8
-same-length-8 c = c.before.before.before.greatest.given
+same-length-6 c = search rules
 
 returns : tie.Need-returns
 returns c =
     let answer-sweep-call = c.answer-sweep in
-    let told = rw c.before.before.before.before.before.before.before.before.before.before.before.before.before.before.before.before.before.before.before.before.before.before.before.before.before.before.before.sweep-of.ensures at c.before.before.before.before.before.before.before.before.before.before.before.before.before.before.before.before.before.before.take-rays.ensures in
+    let told = rw c.before.before.before.before.before.before.before.before.before.before.before.before.before.before.before.before.before.before.before.before.before.sweep-of.ensures at c.before.before.before.before.before.before.before.before.before.before.before.before.before.before.take-rays.ensures in
     record {
       the_number = answer-sweep-call.ensures.0 ∙ ap number_in told.the_answer ∙ number_in_lem _ _;
       the_lent = (λ i. record { sweep = (answer-sweep-call.ensures.1 ∙ ap (sweep_left _) told.the_answer ∙ sweep_left_lem _ _ _) i; lists = told.the_lists i }) ∙ both_left _ _ _;
@@ -63,6 +57,4 @@ answer-take-spec =
     same-length-4
     same-length-5
     same-length-6
-    same-length-7
-    same-length-8
     returns)

@@ -72,53 +72,39 @@ array-borrow-prefix-weighted-sums c = search rules
 slice-aggregate-cells-text-9 : tie.Need-slice-aggregate-cells-text-9
 slice-aggregate-cells-text-9 c = sym (length-take-le _ _ (array-borrow-prefix-weighted-sums c.before))
 
-array-borrow-prefix-least : tie.Need-array-borrow-prefix-least
-array-borrow-prefix-least c = search rules
-
-slice-aggregate-cells-text-10 : tie.Need-slice-aggregate-cells-text-10
-slice-aggregate-cells-text-10 c = sym (length-take-le _ _ (array-borrow-prefix-least c.before))
-
-array-borrow-prefix-greatest : tie.Need-array-borrow-prefix-greatest
-array-borrow-prefix-greatest c = search rules
-
-slice-aggregate-cells-text-11 : tie.Need-slice-aggregate-cells-text-11
-slice-aggregate-cells-text-11 c = sym (length-take-le _ _ (array-borrow-prefix-greatest c.before))
-
 array-borrow-prefix-means : tie.Need-array-borrow-prefix-means
 array-borrow-prefix-means c = search rules
 
-slice-aggregate-cells-text-12 : tie.Need-slice-aggregate-cells-text-12
-slice-aggregate-cells-text-12 c = sym (length-take-le _ _ (array-borrow-prefix-means c.before))
+slice-aggregate-cells-text-10 : tie.Need-slice-aggregate-cells-text-10
+slice-aggregate-cells-text-10 c = sym (length-take-le _ _ (array-borrow-prefix-means c.before))
 
 array-borrow-prefix-cell-qualities : tie.Need-array-borrow-prefix-cell-qualities
 array-borrow-prefix-cell-qualities c = search rules
 
-slice-aggregate-cells-text-13 : tie.Need-slice-aggregate-cells-text-13
-slice-aggregate-cells-text-13 c = sym (length-take-le _ _ (array-borrow-prefix-cell-qualities c.before))
+slice-aggregate-cells-text-11 : tie.Need-slice-aggregate-cells-text-11
+slice-aggregate-cells-text-11 c = sym (length-take-le _ _ (array-borrow-prefix-cell-qualities c.before))
 
 cells-text-requires : tie.Need-cells-text-requires
 unfolding lists_exact
 cells-text-requires c κs =
-    let gates = c.before.before.before.before.before.before.before.before.before.before.before.before.before.before.before.gates-of.ensures in
-    let cells = c.before.before.before.before.before.before.before.before.before.before.before.before.before.before.Cells-of.ensures in
-    let start = c.before.before.before.before.before.before.before.before.before.before.before.before.before.before.before.before.before.before in (
+    let gates = c.before.before.before.before.before.before.before.before.before.before.before.before.before.gates-of.ensures in
+    let cells = c.before.before.before.before.before.before.before.before.before.before.before.before.Cells-of.ensures in
+    let start = c.before.before.before.before.before.before.before.before.before.before.before.before.before.before.before.before in (
       start.requires,
       lengths_exact _ _ (record {
-        azimuths_length = sym (slice-aggregate-cells-text c.before.before.before.before.before.before.before.before.before.before.before.before.before);
-        values_length = sym (slice-aggregate-cells-text-2 c.before.before.before.before.before.before.before.before.before.before.before.before) ∙ gates;
-        qualities_length = sym (slice-aggregate-cells-text-3 c.before.before.before.before.before.before.before.before.before.before.before) ∙ gates;
-        ledger_length = sym (slice-aggregate-cells-text-4 c.before.before.before.before.before.before.before.before.before.before) ∙ gates;
-        marks_length = sym (slice-aggregate-cells-text-5 c.before.before.before.before.before.before.before.before.before) ∙ gates;
-        counts_length = sym (slice-aggregate-cells-text-6 c.before.before.before.before.before.before.before.before) ∙ cells;
-        quality_sums_length = sym (slice-aggregate-cells-text-7 c.before.before.before.before.before.before.before) ∙ cells;
-        value_sums_length = sym (slice-aggregate-cells-text-8 c.before.before.before.before.before.before) ∙ cells;
-        weighted_sums_length = sym (slice-aggregate-cells-text-9 c.before.before.before.before.before) ∙ cells;
-        least_length = sym (slice-aggregate-cells-text-10 c.before.before.before.before) ∙ cells;
-        greatest_length = sym (slice-aggregate-cells-text-11 c.before.before.before) ∙ cells;
+        azimuths_length = sym (slice-aggregate-cells-text c.before.before.before.before.before.before.before.before.before.before.before);
+        values_length = sym (slice-aggregate-cells-text-2 c.before.before.before.before.before.before.before.before.before.before) ∙ gates;
+        qualities_length = sym (slice-aggregate-cells-text-3 c.before.before.before.before.before.before.before.before.before) ∙ gates;
+        ledger_length = sym (slice-aggregate-cells-text-4 c.before.before.before.before.before.before.before.before) ∙ gates;
+        marks_length = sym (slice-aggregate-cells-text-5 c.before.before.before.before.before.before.before) ∙ gates;
+        counts_length = sym (slice-aggregate-cells-text-6 c.before.before.before.before.before.before) ∙ cells;
+        quality_sums_length = sym (slice-aggregate-cells-text-7 c.before.before.before.before.before) ∙ cells;
+        value_sums_length = sym (slice-aggregate-cells-text-8 c.before.before.before.before) ∙ cells;
+        weighted_sums_length = sym (slice-aggregate-cells-text-9 c.before.before.before) ∙ cells;
       }),
       record {
-        means_length = sym (slice-aggregate-cells-text-12 c.before.before) ∙ cells;
-        cell_qualities_length = sym (slice-aggregate-cells-text-13 c.before) ∙ cells;
+        means_length = sym (slice-aggregate-cells-text-10 c.before.before) ∙ cells;
+        cell_qualities_length = sym (slice-aggregate-cells-text-11 c.before) ∙ cells;
       },
     )
 
@@ -150,13 +136,9 @@ good-sheet-spec =
     slice-aggregate-cells-text-8
     array-borrow-prefix-weighted-sums
     slice-aggregate-cells-text-9
-    array-borrow-prefix-least
-    slice-aggregate-cells-text-10
-    array-borrow-prefix-greatest
-    slice-aggregate-cells-text-11
     array-borrow-prefix-means
-    slice-aggregate-cells-text-12
+    slice-aggregate-cells-text-10
     array-borrow-prefix-cell-qualities
-    slice-aggregate-cells-text-13
+    slice-aggregate-cells-text-11
     cells-text-requires
     returns)

@@ -17,13 +17,13 @@ use Rattle.record_sheet.proofs.cells_text.Tie as tie
 
 -- what the function was given, from each step
 abbrev given : tie.After-read-scan → tie.Start
-given c = c.before.before.before.before.before.before.before.before.before.before.before.before.before.before.before.before.before.before
+given c = c.before.before.before.before.before.before.before.before.before.before.before.before.before.before.before.before
 
 abbrev at_read : tie.After-tally → tie.After-read-scan
-at_read c = c.before.before.before.before.before.before.before.before.before.before.before.before.before.before.before.before.before.before
+at_read c = c.before.before.before.before.before.before.before.before.before.before.before.before.before.before.before.before
 
 abbrev at-tally : tie.After-publish → tie.After-tally
-at-tally c = c.before.before.before.before.before.before.before.before.before.before.before.before.before.before.before.before.before.before.before.before.before.before.before
+at-tally c = c.before.before.before.before.before.before.before.before.before.before.before.before.before.before.before.before.before.before.before
 
 abbrev given-tally : tie.After-tally → tie.Start
 given-tally c = given (at_read c)
@@ -32,7 +32,7 @@ abbrev came-in : tie.Start → Scan
 came-in s = scan_held s.args.head s.args.azimuths s.args.values s.args.qualities
 
 abbrev lent : tie.Start → Lists
-lent s = lists_held s.args.ledger s.args.marks s.args.counts s.args.quality-sums s.args.value-sums s.args.weighted-sums s.args.least s.args.greatest
+lent s = lists_held s.args.ledger s.args.marks s.args.counts s.args.quality-sums s.args.value-sums s.args.weighted-sums
 
 -- ---- what each step leaves
 
@@ -51,7 +51,6 @@ lists_left c =
       ledger = last.0;
       marks = last.1.0;
       sums = record { counts = last.1.1.0; quality_sums = last.1.1.1.0; value_sums = last.1.1.1.1.0; weighted_sums = last.1.1.1.1.1.0 };
-      extremes = record { least = last.1.1.1.1.1.1.0; greatest = last.1.1.1.1.1.1.1.0 };
     }
 
 tally-done : (c : tie.After-tally) → lists_left c ≡ tallied_lists (scan_in (given-tally c).args.bytes.now)
@@ -62,7 +61,7 @@ sums-done c = ap (λ (l : Lists). l.sums) (tally-done c)
 
 -- a value of 16 bits
 value-most : (c : tie.After-tally) (k : ℕ) → get_or (read (at_read c)).values k 0 ≤ 65535
-value-most c k = omega (arith, c.before.before.before.before.before.before.before.before.before.before.before.before.before.before.slice-known15.given k)
+value-most c k = omega (arith, c.before.before.before.before.before.before.before.before.before.before.before.before.slice-known13.given k)
 
 abbrev cells_left : tie.After-publish → Cells
 cells_left c =
@@ -85,7 +84,7 @@ publish-requires : tie.Need-publish-requires
 publish-requires c κs = search rules
 
 window-of-requires : tie.Need-window-of-requires
-window-of-requires c κs = grid_good c.before.before.before.before.before.before.before.before.before.before.before.before.before.before.before.before.before.before.before.before.before.before.before.before.before.before.before.before.before.before.before.before.before.before.before.before.before.before.before.before.before.before.before.before.before.before.before.before.before.before.before.before.before.before.before.before.before.before.before.before.before.before.before.requires.0
+window-of-requires c κs = grid_good c.before.before.before.before.before.before.before.before.before.before.before.before.before.before.before.before.before.before.before.before.before.before.before.before.before.before.before.before.before.before.before.before.before.before.before.before.before.before.before.before.before.before.before.before.before.before.before.before.before.before.before.before.before.before.before.requires.0
 
 gates-of-requires : tie.Need-gates-of-requires
 gates-of-requires c κs = search rules
@@ -103,43 +102,37 @@ put-sheet-requires c κs =
     )
 
 same_length : tie.Need-same-length
-same_length c = c.before.before.before.before.before.before.before.before.before.before.before.before.before.before.before.before.before.before.before.before.before.before.before.before.before.before.before.before.before.before.before.before.before.before.before.before.before.before.before.before.before.before.before.before.before.before.before.before.before.before.before.azimuths.given
+same_length c = c.before.before.before.before.before.before.before.before.before.before.before.before.before.before.before.before.before.before.before.before.before.before.before.before.before.before.before.before.before.before.before.before.before.before.before.before.before.before.before.before.before.before.before.before.before.azimuths.given
 
 same-length-2 : tie.Need-same-length-2
-same-length-2 c = c.before.before.before.before.before.before.before.before.before.before.before.before.before.before.before.before.before.before.before.before.before.before.before.before.before.before.before.before.before.before.before.before.before.before.before.before.before.before.before.before.before.before.before.before.before.before.before.before.before.values.given
+same-length-2 c = c.before.before.before.before.before.before.before.before.before.before.before.before.before.before.before.before.before.before.before.before.before.before.before.before.before.before.before.before.before.before.before.before.before.before.before.before.before.before.before.before.before.before.before.values.given
 
 same-length-3 : tie.Need-same-length-3
-same-length-3 c = c.before.before.before.before.before.before.before.before.before.before.before.before.before.before.before.before.before.before.before.before.before.before.before.before.before.before.before.before.before.before.before.before.before.before.before.before.before.before.before.before.before.before.before.before.before.before.before.qualities.given
+same-length-3 c = c.before.before.before.before.before.before.before.before.before.before.before.before.before.before.before.before.before.before.before.before.before.before.before.before.before.before.before.before.before.before.before.before.before.before.before.before.before.before.before.before.before.qualities.given
 
 same-length-4 : tie.Need-same-length-4
-same-length-4 c = c.before.before.before.before.before.before.before.before.before.before.before.before.before.before.before.before.before.before.before.before.before.before.before.before.before.before.before.before.before.before.before.before.before.ledger.given
+same-length-4 c = search rules
 
 same-length-5 : tie.Need-same-length-5
-same-length-5 c = c.before.before.before.before.before.before.before.before.before.before.before.before.before.before.before.before.before.before.before.before.before.before.before.before.before.before.before.before.before.before.before.marks.given
+same-length-5 c = search rules
 
 same-length-6 : tie.Need-same-length-6
-same-length-6 c = c.before.before.before.before.before.before.before.before.before.before.before.before.before.before.before.before.before.before.before.before.before.before.before.before.before.before.before.before.before.counts.given
+same-length-6 c = search rules
 
 same-length-7 : tie.Need-same-length-7
-same-length-7 c = c.before.before.before.before.before.before.before.before.before.before.before.before.before.before.before.before.before.before.before.before.before.before.before.before.before.before.before.quality-sums.given
+same-length-7 c = search rules
 
 same-length-8 : tie.Need-same-length-8
-same-length-8 c = c.before.before.before.before.before.before.before.before.before.before.before.before.before.before.before.before.before.before.before.before.before.before.before.before.before.value-sums.given
+same-length-8 c = search rules
 
 same-length-9 : tie.Need-same-length-9
-same-length-9 c = c.before.before.before.before.before.before.before.before.before.before.before.before.before.before.before.before.before.before.before.before.before.before.before.weighted-sums.given
+same-length-9 c = search rules
 
 same-length-10 : tie.Need-same-length-10
-same-length-10 c = c.before.before.before.before.before.before.before.before.before.before.before.before.before.before.before.before.before.before.before.before.before.least.given
+same-length-10 c = search rules
 
 same-length-11 : tie.Need-same-length-11
-same-length-11 c = c.before.before.before.before.before.before.before.before.before.before.before.before.before.before.before.before.before.before.before.greatest.given
-
-same-length-12 : tie.Need-same-length-12
-same-length-12 c = c.before.before.before.before.before.before.before.before.before.before.means.given
-
-same-length-13 : tie.Need-same-length-13
-same-length-13 c = c.before.before.before.before.before.before.before.before.cell-qualities.given
+same-length-11 c = search rules
 
 returns : tie.Need-returns
 returns c =
@@ -170,6 +163,4 @@ cells-text-spec =
     same-length-9
     same-length-10
     same-length-11
-    same-length-12
-    same-length-13
     returns)

@@ -11,14 +11,14 @@ use Rattle.scan_tally.proofs.tally.Statement.{statement}
 use Rattle.scan_tally.proofs.tally.Tie as tie
 
 abbrev given : tie.After-scan-refusal → tie.Start
-given c = c.before.before.before.before.before.before.before.before.before.before.before.before.before.before.before
+given c = c.before.before.before.before.before.before.before.before.before.before.before.before.before
 
 -- the refusal of the scan that came in
 abbrev number : tie.Start → ℕ
 number s =
     let a = s.args in
     refusal_for (scan_held a.head a.azimuths a.values a.qualities)
-    (lists_held a.ledger a.marks a.counts a.quality-sums a.value-sums a.weighted-sums a.least a.greatest)
+    (lists_held a.ledger a.marks a.counts a.quality-sums a.value-sums a.weighted-sums)
 
 is-refusal : (c : tie.After-scan-refusal) → c.scan-refusal.result ≡ number (given c)
 unfolding refusal_for scan_refusal lists_exact
@@ -50,37 +50,32 @@ unfolding outcome_answer
 returns c = record { the_answer = rw (is-refusal c.before) (is_refused _ _ (refused c)); the_lists = kept _ _ _ (refused c) }
 
 accepted-tally-requires : tie.Need-accepted-tally-requires
-accepted-tally-requires c κs = accepted c.before.before.before.before.before.before.before.before
+accepted-tally-requires c κs = accepted c.before.before.before.before.before.before
 
 same_length : tie.Need-same-length
-same_length c = c.before.before.before.before.before.before.before.before.before.before.before.before.before.before.before.ledger.given
+same_length c = search rules
 
 same-length-2 : tie.Need-same-length-2
-same-length-2 c = c.before.before.before.before.before.before.before.before.before.before.before.before.before.marks.given
+same-length-2 c = search rules
 
 same-length-3 : tie.Need-same-length-3
-same-length-3 c = c.before.before.before.before.before.before.before.before.before.before.before.counts.given
+same-length-3 c = search rules
 
 same-length-4 : tie.Need-same-length-4
-same-length-4 c = c.before.before.before.before.before.before.before.before.before.quality-sums.given
+same-length-4 c = search rules
 
 same-length-5 : tie.Need-same-length-5
-same-length-5 c = c.before.before.before.before.before.before.before.value-sums.given
+same-length-5 c = search rules
 
 same-length-6 : tie.Need-same-length-6
-same-length-6 c = c.before.before.before.before.before.weighted-sums.given
-
-same-length-7 : tie.Need-same-length-7
-same-length-7 c = c.before.before.before.least.given
-
-same-length-8 : tie.Need-same-length-8
-same-length-8 c = c.before.greatest.given
+same-length-6 c = search rules
 
 returns-2 : tie.Need-returns-2
 unfolding outcome_answer
 returns-2 c =
-    let zero = accepted c.before.before.before.before.before.before.before.before.before.before.before.before.before.before.before.before.before.before.before.before.before.before.before.before.before in
-    record { the_answer = is_given zero refl; the_lists = filled _ zero c.before.before.before.before.before.before.before.before.before.before.before.before.before.before.before.before.accepted-tally.ensures }
+    let tallied = c.before.before.before.before.before.before.before.before.before.before.before.before in
+    let zero = accepted tallied.before.before.before.before.before.before.before in
+    record { the_answer = is_given zero refl; the_lists = filled _ zero tallied.accepted-tally.ensures }
 
 pub tally-spec : {M : Type 1} → statement M
 tally-spec =
@@ -98,6 +93,4 @@ tally-spec =
     same-length-4
     same-length-5
     same-length-6
-    same-length-7
-    same-length-8
     returns-2)

@@ -41,16 +41,8 @@ returns-6 : tie.Need-returns-6
 returns-6 c = refused_lengths _ _ (λ known. c.if6.true (known.value_sums_length ∙ sym c.before.before.before.before.before.before.before.before.before.before.before.before.Cells-of.ensures))
 
 returns-7 : tie.Need-returns-7
-returns-7 c = refused_lengths _ _ (λ known. c.if7.true (known.weighted_sums_length ∙ sym c.before.before.before.before.before.before.before.before.before.before.before.before.before.before.Cells-of.ensures))
-
-returns-8 : tie.Need-returns-8
-returns-8 c = refused_lengths _ _ (λ known. c.if8.true (known.least_length ∙ sym c.before.before.before.before.before.before.before.before.before.before.before.before.before.before.before.before.Cells-of.ensures))
-
-returns-9 : tie.Need-returns-9
-returns-9 c =
-    let eighth = c.before in
-    let seventh = eighth.before.before in
-    let sixth = seventh.before.before in
+returns-7 c =
+    let sixth = c.before in
     let fifth = sixth.before.before in
     let fourth = fifth.before.before in
     let third = fourth.before.before in
@@ -59,7 +51,7 @@ returns-9 c =
     let cells = first.before.before.Cells-of.ensures in
     let gates = first.before.before.before.gates-of.ensures in
     ap (eqb _) cells
-    ∙ by_last_length _ _ (lists-passed first) (second.if2.false ∙ gates) (third.if3.false ∙ gates) (fourth.if4.false ∙ cells) (fifth.if5.false ∙ cells) (sixth.if6.false ∙ cells) (seventh.if7.false ∙ cells) (eighth.if8.false ∙ cells)
+    ∙ by_last_length _ _ (lists-passed first) (second.if2.false ∙ gates) (third.if3.false ∙ gates) (fourth.if4.false ∙ cells) (fifth.if5.false ∙ cells) (sixth.if6.false ∙ cells)
 
 pub lengths-accepted-spec : {M : Type 1} → statement M
 lengths-accepted-spec =
@@ -74,6 +66,4 @@ lengths-accepted-spec =
     returns-4
     returns-5
     returns-6
-    returns-7
-    returns-8
-    returns-9)
+    returns-7)

@@ -38,10 +38,10 @@ unfolding close_refusal
 publish-cells-requires c κs = publishable (known c.before.before.before.before.before.before.before.before.before.before.before (sym c.before.before.before.close-refusal.ensures ∙ c.before.before.if1.false))
 
 same_length : tie.Need-same-length
-same_length c = c.before.before.before.means.given
+same_length c = search rules
 
 same-length-2 : tie.Need-same-length-2
-same-length-2 c = c.before.cell-qualities.given
+same-length-2 c = search rules
 
 returns-2 : tie.Need-returns-2
 unfolding swept_answer close_refusal ended

@@ -20,30 +20,13 @@ abbrev group : tie.Start → RayGroup
 group s = let a = s.args in group_held a.azimuths a.values a.qualities
 
 abbrev lists : tie.Start → Lists
-lists s = let a = s.args in lists_held a.ledger a.marks a.counts a.quality-sums a.value-sums a.weighted-sums a.least a.greatest
+lists s = let a = s.args in lists_held a.ledger a.marks a.counts a.quality-sums a.value-sums a.weighted-sums
 
 abbrev checks : tie.Start → ℕ
 checks s = let sweep = s.args.self in take_checks sweep.head sweep.closed sweep.taken (group s) (lists s)
 
 good : (s : tie.Start) → checks s ≡ 0 → let sweep = s.args.self in AcceptedGroup sweep.head sweep.closed sweep.taken (group s) (lists s)
 good s e = accepted_group _ _ _ (group s) (lists s) e
-
--- ---- the number that was found
-
-abbrev given : tie.After-take-refusal → tie.Start
-given c = c.before.before.before.before.before.before.before.before.before.before.before.before.before.before.before
-
-is_number_lem : (c : tie.After-take-refusal) → c.take-refusal.result ≡ checks (given c)
-unfolding take_checks
-is_number_lem c = c.take-refusal.ensures ∙ simp (c.before.before.azimuths_accepted.ensures, c.before.qualities_accepted.ensures)
-
-passed : (c : tie.Else1) → checks (given c.before) ≡ 0
-passed c = sym (is_number_lem c.before) ∙ c.if1.false
-
-accepted : (c : tie.Else1) → let s = given c.before in let sweep = s.args.self in AcceptedGroup sweep.head sweep.closed sweep.taken (group s) (lists s)
-accepted c = good (given c.before) (passed c)
-
--- ---- the needs
 
 azimuths-accepted-requires : tie.Need-azimuths-accepted-requires
 azimuths-accepted-requires c κs = search rules
@@ -55,96 +38,92 @@ take-refusal-requires : tie.Need-take-refusal-requires
 take-refusal-requires c κs = search rules
 
 returns : tie.Need-returns
-unfolding swept_answer rays_refusal
+unfolding swept_answer rays_refusal take_checks
 returns c =
-    let s = c.before.before.before.before.before.before.before.before.before.before.before.before.before.before.before.before in
+    let s = c.before.before.before.before.before.before.before.before.before.before.before.before.before.before in
+    let take-refusal-call = c.before.take-refusal in
+    let if1-call = c.if1 in
     let sweep = s.args.self in
-    let number = by_checks sweep.head sweep.closed sweep.taken (group s) (lists s) (is_number_lem c.before) c.if1.true in
-    let wrong : rays_refusal sweep (group s) (lists s) ≡ 0 → ⊥ = λ e. c.if1.true (number ∙ e) in
+    let is : take-refusal-call.result ≡ checks s = take-refusal-call.ensures ∙ rw (c.before.before.before.azimuths_accepted.ensures, c.before.before.qualities_accepted.ensures) in
+    let number = by_checks sweep.head sweep.closed sweep.taken (group s) (lists s) is if1-call.true in
+    let wrong : rays_refusal sweep (group s) (lists s) ≡ 0 → ⊥ = λ e. if1-call.true (number ∙ e) in
     record { the_answer = rw number (is_refused _ _ wrong); the_lists = kept _ _ _ wrong }
 
 accepted-take-requires : tie.Need-accepted-take-requires
+unfolding take_checks
 accepted-take-requires c κs =
-    let s = c.before.before.before.before.before.before.before.before.before.before.before.before.before.before.before.before.before.before.before.before.before.before.before.before in
-    let zero : checks s ≡ 0 = passed c.before.before.before.before.before.before.before.before in
+    let s = c.before.before.before.before.before.before.before.before.before.before.before.before.before.before.before.before.before.before.before.before in
+    let zero : checks s ≡ 0 = sym (c.before.before.before.before.before.before.before.take-refusal.ensures ∙ rw (c.before.before.before.before.before.before.before.before.before.azimuths_accepted.ensures, c.before.before.before.before.before.before.before.before.qualities_accepted.ensures)) ∙ c.before.before.before.before.before.before.if1.false in
     rw (good s zero).open_yet at zero
 
 same_length : tie.Need-same-length
-same_length c = c.before.before.before.before.before.before.before.before.before.before.before.before.before.before.before.before.ledger.given
+same_length c = search rules
 
 same-length-2 : tie.Need-same-length-2
-same-length-2 c = c.before.before.before.before.before.before.before.before.before.before.before.before.before.before.marks.given
+same-length-2 c = search rules
 
 same-length-3 : tie.Need-same-length-3
-same-length-3 c = c.before.before.before.before.before.before.before.before.before.before.before.before.counts.given
+same-length-3 c = search rules
 
 same-length-4 : tie.Need-same-length-4
-same-length-4 c = c.before.before.before.before.before.before.before.before.before.before.quality-sums.given
+same-length-4 c = search rules
 
 same-length-5 : tie.Need-same-length-5
-same-length-5 c = c.before.before.before.before.before.before.before.before.value-sums.given
+same-length-5 c = search rules
 
 same-length-6 : tie.Need-same-length-6
-same-length-6 c = c.before.before.before.before.before.before.weighted-sums.given
-
-same-length-7 : tie.Need-same-length-7
-same-length-7 c = c.before.before.before.before.least.given
-
-same-length-8 : tie.Need-same-length-8
-same-length-8 c = c.before.before.greatest.given
+same-length-6 c = search rules
 
 returns-2 : tie.Need-returns-2
-unfolding swept_answer rays_refusal answered afterwards
+unfolding swept_answer rays_refusal take_checks answered afterwards
 returns-2 c =
-    let s = c.before.before.before.before.before.before.before.before.before.before.before.before.before.before.before.before.before.before.before.before.before.before.before.before.before.before.before.before.before.before.before.before.before.before.before.before.before.before.before.before.before.before in
+    let s = c.before.before.before.before.before.before.before.before.before.before.before.before.before.before.before.before.before.before.before.before.before.before.before.before.before.before.before.before.before.before.before.before.before.before in
     let sweep = s.args.self in
-    let taken = c.before.before.before.before.before.before.before.before.before.before.before.before.before.before.before.before.before.accepted-take.ensures in
+    let zero : checks s ≡ 0 = sym (c.before.before.before.before.before.before.before.before.before.before.before.before.before.before.before.before.before.before.before.before.before.take-refusal.ensures ∙ rw (c.before.before.before.before.before.before.before.before.before.before.before.before.before.before.before.before.before.before.before.before.before.before.before.azimuths_accepted.ensures, c.before.before.before.before.before.before.before.before.before.before.before.before.before.before.before.before.before.before.before.before.before.before.qualities_accepted.ensures)) ∙ c.before.before.before.before.before.before.before.before.before.before.before.before.before.before.before.before.before.before.before.before.if1.false in
+    let taken = c.before.before.before.before.before.before.before.before.before.before.before.before.before.accepted-take.ensures in
     let was = not-true _ c.if2.true in
-    let number = by_width sweep.head sweep.closed sweep.taken (group s) (lists s) (passed c.before.before.before.before.before.before.before.before.before.before.before.before.before.before.before.before.before.before.before.before.before.before.before.before.before.before) (sym taken.the_answer ∙ was) in
+    let number = by_width sweep.head sweep.closed sweep.taken (group s) (lists s) zero (sym taken.the_answer ∙ was) in
     record { the_answer = rw number; the_lists = rw number (rw was at taken.the_lists) }
 
-cast-t47 : tie.Need-overflow-cast-t47
-cast-t47 c =
-    let g = accepted c.before.before.before.before.before.before.before.before.before.before.before.before.before.before.before.before.before.before.before.before.before.before.before.before.before.before in
+cast-t38 : tie.Need-overflow-cast-t38
+unfolding take_checks
+cast-t38 c =
+    let g = good c.before.before.before.before.before.before.before.before.before.before.before.before.before.before.before.before.before.before.before.before.before.before.before.before.before.before.before.before.before.before.before.before.before.before (sym (c.before.before.before.before.before.before.before.before.before.before.before.before.before.before.before.before.before.before.before.before.before.take-refusal.ensures ∙ rw (c.before.before.before.before.before.before.before.before.before.before.before.before.before.before.before.before.before.before.before.before.before.before.before.azimuths_accepted.ensures, c.before.before.before.before.before.before.before.before.before.before.before.before.before.before.before.before.before.before.before.before.before.before.qualities_accepted.ensures)) ∙ c.before.before.before.before.before.before.before.before.before.before.before.before.before.before.before.before.before.before.before.before.if1.false) in
     omega (arith, g.rays_most, g.rays_limit)
 
-add-t48 : tie.Need-overflow-add-t48
-add-t48 c =
-    let g = accepted c.before.before.before.before.before.before.before.before.before.before.before.before.before.before.before.before.before.before.before.before.before.before.before.before.before.before.before in
+add-t39 : tie.Need-overflow-add-t39
+unfolding take_checks
+add-t39 c =
+    let g = good c.before.before.before.before.before.before.before.before.before.before.before.before.before.before.before.before.before.before.before.before.before.before.before.before.before.before.before.before.before.before.before.before.before.before.before (sym (c.before.before.before.before.before.before.before.before.before.before.before.before.before.before.before.before.before.before.before.before.before.before.take-refusal.ensures ∙ rw (c.before.before.before.before.before.before.before.before.before.before.before.before.before.before.before.before.before.before.before.before.before.before.before.before.azimuths_accepted.ensures, c.before.before.before.before.before.before.before.before.before.before.before.before.before.before.before.before.before.before.before.before.before.before.before.qualities_accepted.ensures)) ∙ c.before.before.before.before.before.before.before.before.before.before.before.before.before.before.before.before.before.before.before.before.before.if1.false) in
     omega (arith, g.rays_most, g.rays_limit)
+
+same-length-7 : tie.Need-same-length-7
+same-length-7 c = search rules
+
+same-length-8 : tie.Need-same-length-8
+same-length-8 c = search rules
 
 same-length-9 : tie.Need-same-length-9
-same-length-9 c = c.before.before.before.before.before.before.before.before.before.before.before.before.before.before.before.before.before.ledger.given
+same-length-9 c = search rules
 
 same-length-10 : tie.Need-same-length-10
-same-length-10 c = c.before.before.before.before.before.before.before.before.before.before.before.before.before.before.before.marks.given
+same-length-10 c = search rules
 
 same-length-11 : tie.Need-same-length-11
-same-length-11 c = c.before.before.before.before.before.before.before.before.before.before.before.before.before.counts.given
+same-length-11 c = search rules
 
 same-length-12 : tie.Need-same-length-12
-same-length-12 c = c.before.before.before.before.before.before.before.before.before.before.before.quality-sums.given
-
-same-length-13 : tie.Need-same-length-13
-same-length-13 c = c.before.before.before.before.before.before.before.before.before.value-sums.given
-
-same-length-14 : tie.Need-same-length-14
-same-length-14 c = c.before.before.before.before.before.before.before.weighted-sums.given
-
-same-length-15 : tie.Need-same-length-15
-same-length-15 c = c.before.before.before.before.before.least.given
-
-same-length-16 : tie.Need-same-length-16
-same-length-16 c = c.before.before.before.greatest.given
+same-length-12 c = search rules
 
 returns-3 : tie.Need-returns-3
-unfolding swept_answer rays_refusal counted
+unfolding swept_answer rays_refusal take_checks counted
 returns-3 c =
-    let s = c.before.before.before.before.before.before.before.before.before.before.before.before.before.before.before.before.before.before.before.before.before.before.before.before.before.before.before.before.before.before.before.before.before.before.before.before.before.before.before.before.before.before.before in
+    let s = c.before.before.before.before.before.before.before.before.before.before.before.before.before.before.before.before.before.before.before.before.before.before.before.before.before.before.before.before.before.before.before.before.before.before.before in
     let sweep = s.args.self in
-    let taken = c.before.before.before.before.before.before.before.before.before.before.before.before.before.before.before.before.before.before.accepted-take.ensures in
+    let zero : checks s ≡ 0 = sym (c.before.before.before.before.before.before.before.before.before.before.before.before.before.before.before.before.before.before.before.before.before.before.take-refusal.ensures ∙ rw (c.before.before.before.before.before.before.before.before.before.before.before.before.before.before.before.before.before.before.before.before.before.before.before.before.azimuths_accepted.ensures, c.before.before.before.before.before.before.before.before.before.before.before.before.before.before.before.before.before.before.before.before.before.before.before.qualities_accepted.ensures)) ∙ c.before.before.before.before.before.before.before.before.before.before.before.before.before.before.before.before.before.before.before.before.before.if1.false in
+    let taken = c.before.before.before.before.before.before.before.before.before.before.before.before.before.before.accepted-take.ensures in
     let was = not-false _ c.before.if2.false in
-    let none : rays_refusal sweep (group s) (lists s) ≡ 0 = by_nothing sweep.head sweep.closed sweep.taken (group s) (lists s) (passed c.before.before.before.before.before.before.before.before.before.before.before.before.before.before.before.before.before.before.before.before.before.before.before.before.before.before.before) (sym taken.the_answer ∙ was) in
+    let none : rays_refusal sweep (group s) (lists s) ≡ 0 = by_nothing sweep.head sweep.closed sweep.taken (group s) (lists s) zero (sym taken.the_answer ∙ was) in
     record { the_answer = is_given none refl; the_lists = filled _ none (rw was at taken.the_lists) }
 
 pub take-rays-spec : {M : Type 1} → statement M
@@ -162,17 +141,13 @@ take-rays-spec =
     same-length-4
     same-length-5
     same-length-6
+    returns-2
+    cast-t38
+    add-t39
     same-length-7
     same-length-8
-    returns-2
-    cast-t47
-    add-t48
     same-length-9
     same-length-10
     same-length-11
     same-length-12
-    same-length-13
-    same-length-14
-    same-length-15
-    same-length-16
     returns-3)

@@ -5,15 +5,15 @@ use borrow.Author.Rules.{rules}
 use Rattle.sweep_checks.proofs.refusal_numbers.open_refusal.Statement.{statement}
 use Rattle.sweep_checks.proofs.refusal_numbers.open_refusal.Tie as tie
 
-tally-accepted-requires : tie.Need-tally-accepted-requires
-tally-accepted-requires c κs = search rules
+sums-accepted-requires : tie.Need-sums-accepted-requires
+sums-accepted-requires c κs = search rules
 
 scan-refusal-requires : tie.Need-scan-refusal-requires
 scan-refusal-requires c κs = search rules
 
 returns : tie.Need-returns
 unfolding open_number
-returns c = c.scan-refusal.ensures ∙ rw c.before.tally-accepted.ensures
+returns c = c.scan-refusal.ensures ∙ rw c.before.sums_pass.ensures
 
 pub open-refusal-spec : {M : Type 1} → statement M
-open-refusal-spec = tie.close (tie.spec tally-accepted-requires scan-refusal-requires returns)
+open-refusal-spec = tie.close (tie.spec sums-accepted-requires scan-refusal-requires returns)

@@ -26,15 +26,15 @@ returns-2 : tie.Need-returns-2
 unfolding take_number
 returns-2 c = c.scan-refusal.ensures ∙ sym (then_next _ (sym c.before.before.before.before.state-refusal.ensures ∙ c.before.before.before.if1.false) ∙ rw (sym c.before.before.group-accepted.ensures ∙ not-true _ c.before.if2.true))
 
-tally-accepted-requires : tie.Need-tally-accepted-requires
-tally-accepted-requires c κs = search rules
+sums-accepted-requires : tie.Need-sums-accepted-requires
+sums-accepted-requires c κs = search rules
 
 scan-refusal-requires-2 : tie.Need-scan-refusal-requires-2
 scan-refusal-requires-2 c κs = search rules
 
 returns-3 : tie.Need-returns-3
 unfolding take_number
-returns-3 c = c.scan-refusal2.ensures ∙ sym (then_next _ (sym c.before.before.before.before.before.state-refusal.ensures ∙ c.before.before.before.before.if1.false) ∙ rw (sym c.before.before.before.group-accepted.ensures ∙ not-false _ c.before.before.if2.false, c.before.tally-accepted.ensures))
+returns-3 c = c.scan-refusal2.ensures ∙ sym (then_next _ (sym c.before.before.before.before.before.state-refusal.ensures ∙ c.before.before.before.before.if1.false) ∙ rw (sym c.before.before.before.group-accepted.ensures ∙ not-false _ c.before.before.if2.false, c.before.sums_pass.ensures))
 
 pub take-refusal-spec : {M : Type 1} → statement M
 take-refusal-spec =
@@ -45,6 +45,6 @@ take-refusal-spec =
     group-accepted-requires
     scan-refusal-requires
     returns-2
-    tally-accepted-requires
+    sums-accepted-requires
     scan-refusal-requires-2
     returns-3)
