@@ -1,6 +1,5 @@
 -- A group of rays as it is given, as a record, and a contract's parameters as this record. Assumes nothing.
 use Rattle.std.specs.Prelude.{List, ℕ}
-use Rattle.tally.specs.LentSums.{Slice}
 
 -- an azimuth for each ray; a value and a quality for each gate, ray by ray
 pub record RayGroup : Type 0 where
@@ -8,5 +7,5 @@ pub record RayGroup : Type 0 where
   pub values : List ℕ
   pub qualities : List ℕ
 
-abbrev pub group_held : Slice → Slice → Slice → RayGroup
-group_held azimuths values qualities = record { azimuths = azimuths.now; values = values.now; qualities = qualities.now }
+abbrev pub group_held : List ℕ → List ℕ → List ℕ → RayGroup
+group_held azimuths values qualities = record { azimuths = azimuths; values = values; qualities = qualities }

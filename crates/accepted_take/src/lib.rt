@@ -1,4 +1,6 @@
 // A group of rays, of accepted numbers and lists: the sums, then ledger and marks.
+#![tactic(auto)]
+
 ghost use Rattle.std.specs.Prelude.{false, ◌≡◌};
 ghost use Rattle.scan.specs.LentLists.{lists_held, lent_lists};
 ghost use Rattle.accepted_take.specs.RayGroup.{group_held};
@@ -23,8 +25,8 @@ pub fn accepted_take(
     value_sums: &mut [u64],
     weighted_sums: &mut [u64],
 ) -> bool
-    requires { take_checks head false taken (group_held azimuths values qualities) (lists_held ledger marks counts quality_sums value_sums weighted_sums) ≡ 0 }
-    ensures { TakesGroup head taken (group_held azimuths.entry values.entry qualities.entry) (lent_lists ledger marks counts quality_sums value_sums weighted_sums) result }
+    requires { take_checks head false taken (group_held azimuths.now values.now qualities.now) (lists_held ledger.old marks.old counts.old quality_sums.old value_sums.old weighted_sums.old) ≡ 0 }
+    ensures { TakesGroup head taken (group_held azimuths.now values.now qualities.now) (lent_lists ledger marks counts quality_sums value_sums weighted_sums) result }
 {
     let site = head.site;
     let grid = head.grid;

@@ -1,4 +1,6 @@
 // The tally of a scan, of accepted numbers and lists: ledger and marks, then the sums.
+#![tactic(auto)]
+
 ghost use Rattle.std.specs.Prelude.{◌≡◌};
 ghost use Rattle.scan.specs.LentLists.{lists_held, lent_lists};
 ghost use Rattle.scan.specs.Scan.{scan_held};
@@ -22,8 +24,8 @@ pub fn accepted_tally(
     value_sums: &mut [u64],
     weighted_sums: &mut [u64],
 )
-    requires { refusal_for (scan_held head azimuths values qualities) (lists_held ledger marks counts quality_sums value_sums weighted_sums) ≡ 0 }
-    ensures { (lent_lists ledger marks counts quality_sums value_sums weighted_sums).exit ≡ tallied_lists (scan_held head azimuths.entry values.entry qualities.entry) }
+    requires { refusal_for (scan_held head azimuths.now values.now qualities.now) (lists_held ledger.old marks.old counts.old quality_sums.old value_sums.old weighted_sums.old) ≡ 0 }
+    ensures { (lent_lists ledger marks counts quality_sums value_sums weighted_sums).exit ≡ tallied_lists (scan_held head azimuths.now values.now qualities.now) }
 {
     let site = head.site;
     let grid = head.grid;

@@ -1,4 +1,6 @@
 // Laws of numbers and lists, in proofs/, and the one quotient that several crates work.
+#![tactic(auto)]
+
 ghost use Rattle.std.specs.Prelude.{◌≡◌, ◌<◌};
 ghost use Rattle.arithmetic.specs.Floor.{◌÷◌};
 

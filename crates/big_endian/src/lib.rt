@@ -1,4 +1,6 @@
 // Whole numbers as bytes, big-endian, negative ones in two's complement.
+#![tactic(auto)]
+
 mod read;
 mod written;
 

@@ -1,6 +1,6 @@
 -- What is lent to an exported function besides a scan's lists, as records, and a contract's parameters as these records. Assumes nothing.
 use Rattle.std.specs.Prelude.{List, ℕ, ℤ}
-use Rattle.std.specs.Borrow.{Bor}
+use Rattle.std.specs.Borrow.{MutBor}
 use denote.Triple.Both.{Both}
 use Rattle.placement.specs.Gate.{PlacedGate}
 use Rattle.tally.specs.LentSums.{Lent}
@@ -24,13 +24,13 @@ pub record WrittenNumbers : Type 0 where
 -- ---- as a call finds them and as it leaves them
 
 abbrev pub LentNumber : Type 0
-LentNumber = Both (Bor ℕ) (Bor ℕ)
+LentNumber = Both (MutBor ℕ) (MutBor ℕ)
 
 abbrev pub LentInteger : Type 0
-LentInteger = Both (Bor ℤ) (Bor ℤ)
+LentInteger = Both (MutBor ℤ) (MutBor ℤ)
 
 abbrev pub LentStruct : Type 0
-LentStruct = Both (Bor (List ℤ)) (Bor (List ℤ))
+LentStruct = Both (MutBor (List ℤ)) (MutBor (List ℤ))
 
 abbrev pub lent_gate : LentNumber → LentInteger → LentInteger → LentNumber → Both PlacedGate PlacedGate
 lent_gate cell x y mark = record {

@@ -1,4 +1,6 @@
 // What our functions answer, as C is told it: a number, and what is lent for the values.
+#![tactic(auto)]
+
 mod field;
 mod gate;
 mod outcome;

@@ -15,7 +15,7 @@ pub fn answer_place(
     y: &mut i64,
     mark: &mut u8,
 ) -> u32
-    ensures { PlacesGate site grid azimuth range cell x y mark result }
+    ensures { PlacesGate site.now grid.now azimuth range cell x y mark result }
 {
     answer_gate(
         placement::place(

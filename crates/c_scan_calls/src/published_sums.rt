@@ -13,7 +13,7 @@ pub fn answer_publish(
     means: &mut [u16],
     cell_qualities: &mut [u8],
 ) -> u32
-    ensures { PublishesSums weighting counts quality_sums value_sums weighted_sums means cell_qualities result }
+    ensures { PublishesSums weighting counts.now quality_sums.now value_sums.now weighted_sums.now means cell_qualities result }
 {
     let asked = weighting_of(weighting);
     outcome_number(publish::publish(

@@ -1,4 +1,6 @@
 // Site, grid and scan head from the structs of signed numbers in which they cross from C, and back.
+#![tactic(auto)]
+
 ghost use Rattle.std.specs.Prelude.{◌≡◌};
 ghost use Rattle.c_structs.specs.Structs.{site_at, grid_at, grid_of, weighting_of, head_of, grid_numbers, head_numbers};
 
@@ -8,7 +10,7 @@ use refusal::unsigned32;
 use scan::ScanHead;
 
 // The numbers of a grid of either kind: 1 RADOLAN; 2 HRAP, where x and y are I and J.
-#[derive(Drop)]
+#[derive(Clone, Copy)]
 pub struct GridNumbers {
     pub kind: i64,
     pub x: i64,

@@ -1,4 +1,6 @@
 // The state of a sweep, from the struct of signed numbers in which it crosses from C, and back; and what an operation answers.
+#![tactic(auto)]
+
 ghost use Rattle.std.specs.Prelude.{◌≡◌};
 ghost use Rattle.refusal.specs.Answer.{number_in};
 ghost use Rattle.sweep.specs.SweepOperations.{swept_answer};

@@ -1,5 +1,7 @@
 // The operations of a sweep on C's struct of its state. The answer is 0, with the state and the lent lists written, or the refusal number, with all of
 // them as they came in.
+#![tactic(auto)]
+
 ghost use Rattle.c_sweep_calls.specs.SweepCalls.{OpensSweep, TakesRays, ClosesSweep};
 
 use c_structs::head_of;
@@ -14,7 +16,7 @@ pub fn answer_open(
     weighted_sums: &mut [u64],
     sweep: &mut [i64; 15],
 ) -> u32
-    ensures { OpensSweep scan counts quality_sums value_sums weighted_sums sweep result }
+    ensures { OpensSweep scan.now counts quality_sums value_sums weighted_sums sweep result }
 {
     answer_sweep(
         Sweep::open(
@@ -40,7 +42,7 @@ pub fn answer_take(
     value_sums: &mut [u64],
     weighted_sums: &mut [u64],
 ) -> u32
-    ensures { TakesRays sweep azimuths values qualities ledger marks counts quality_sums value_sums weighted_sums result }
+    ensures { TakesRays sweep azimuths.now values.now qualities.now ledger marks counts quality_sums value_sums weighted_sums result }
 {
     let state = sweep_of(sweep);
     answer_sweep(
@@ -68,7 +70,7 @@ pub fn answer_close(
     means: &mut [u16],
     cell_qualities: &mut [u8],
 ) -> u32
-    ensures { ClosesSweep sweep counts quality_sums value_sums weighted_sums means cell_qualities result }
+    ensures { ClosesSweep sweep counts.now quality_sums.now value_sums.now weighted_sums.now means cell_qualities result }
 {
     let state = sweep_of(sweep);
     answer_sweep(

@@ -1,5 +1,7 @@
 // Document 01, "Sine tables": the constant table S. A table is copied to the stack where it is read, so its entries are u32, and no loop
 // over gates reads one.
+#![tactic(auto)]
+
 ghost use Rattle.sine_series.specs.Tables.{Tabulates};
 ghost use Rattle.sine_series.specs.Tables.{S as Tables-as-S};
 

@@ -2,18 +2,18 @@
 -- nothing.
 use Rattle.std.specs.Prelude.{List, ℕ}
 use denote.Triple.Both.{Both}
-use Rattle.tally.specs.LentSums.{Slice, Lent}
+use Rattle.tally.specs.LentSums.{Lent}
 
 -- a number for each cell
 pub record Extremes : Type 0 where
   pub least : List ℕ
   pub greatest : List ℕ
 
-abbrev pub extremes_held : Slice → Slice → Extremes
-extremes_held least greatest = record { least = least.now; greatest = greatest.now }
+abbrev pub extremes_held : List ℕ → List ℕ → Extremes
+extremes_held least greatest = record { least = least; greatest = greatest }
 
 abbrev pub lent_extremes : Lent → Lent → Both Extremes Extremes
 lent_extremes least greatest = record {
-  entry = extremes_held least.entry greatest.entry;
-  exit = extremes_held least.exit greatest.exit;
+  entry = extremes_held least.entry.now greatest.entry.now;
+  exit = extremes_held least.exit.now greatest.exit.now;
 }

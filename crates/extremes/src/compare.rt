@@ -9,7 +9,7 @@ use tally::echo_of;
 
 // Compares the value of each measured gate with what the lists hold for its cell. For our own crates: they have tested the lists' lengths.
 pub fn compare_gates(ledger: &[u32], values: &[u16], least: &mut [u16], greatest: &mut [u16])
-    requires { Comparable ledger.now values.now (extremes_held least greatest) }
+    requires { Comparable ledger.now values.now (extremes_held least.old greatest.old) }
     ensures { let extremes = lent_extremes least greatest in
         extremes.exit ≡ compared ledger.now values.now extremes.entry }
 {

@@ -1,4 +1,6 @@
 // The least and the greatest value of the gates of each cell.
+#![tactic(auto)]
+
 mod choice;
 mod clear;
 mod compare;

@@ -1,4 +1,6 @@
 // Document 01, "Sine tables": the entries of F and G, worked out when they are needed.
+#![tactic(auto)]
+
 ghost use Rattle.std.specs.Prelude.{◌≡◌, ◌<◌, pos};
 ghost use Rattle.sine_series.specs.Tables.{F, G};
 

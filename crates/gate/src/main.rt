@@ -3,6 +3,8 @@
 //     gate latitude longitude azimuth range radolan x y side columns rows
 // It prints `inside` with X, Y, column, row and cell, `outside` with X and Y, or `refused` with a number; anything else is answered by
 // the usage line.
+#![tactic(auto)]
+
 ghost use Rattle.std.specs.Prelude.{◌≤◌, length};
 
 use libc::STDOUT_FILENO;

@@ -1,4 +1,6 @@
 // One gate given in words: the words, and the numbers that they give.
+#![tactic(auto)]
+
 mod given;
 mod words;
 

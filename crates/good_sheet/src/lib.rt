@@ -1,4 +1,6 @@
 // The sheet of a good record within the two sizes. The lists are parts of arrays that hold the largest scan that is printed.
+#![tactic(auto)]
+
 ghost use Rattle.std.specs.Prelude.{◌≤◌};
 ghost use Rattle.text.specs.StoredText.{Stored};
 ghost use Rattle.record_sheet.specs.GoodSheet.{good_sheet};

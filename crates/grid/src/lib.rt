@@ -1,4 +1,6 @@
 // The sphere of a kind of grid, the cells that a grid spans, and what lies near their lines.
+#![tactic(auto)]
+
 mod mark;
 mod sphere;
 mod window;

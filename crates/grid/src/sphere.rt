@@ -5,7 +5,7 @@ ghost use Rattle.grid.specs.Sphere.{sphere_of};
 use limits::Grid;
 
 // The sphere of a kind of grid: radius R, central meridian and K, always together.
-#[derive(Drop)]
+#[derive(Clone, Copy)]
 pub struct Sphere {
     pub radius: u64,
     pub meridian: i64,

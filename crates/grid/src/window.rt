@@ -8,7 +8,7 @@ use arithmetic::floor_div;
 use limits::Grid;
 
 // The cells of a grid of either kind.
-#[derive(Drop)]
+#[derive(Clone, Copy)]
 pub struct Window {
     pub x: i64,
     pub y: i64,

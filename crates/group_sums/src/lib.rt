@@ -1,5 +1,7 @@
 // The gates of a group of rays, added onto the sums: all of them or none. `entries` is room for the ledger of one ray, of as many places as a ray
 // has gates.
+#![tactic(auto)]
+
 mod undo;
 
 ghost use Rattle.std.specs.Prelude.{length};
@@ -30,7 +32,7 @@ pub fn add_rays(
     value_sums: &mut [u64],
     weighted_sums: &mut [u64],
 ) -> bool
-    requires { Surveyed survey × GroupAddable first spacing entries.old azimuths.now values.now qualities.now (sums_held counts quality_sums value_sums weighted_sums) }
+    requires { Surveyed survey × GroupAddable first spacing entries.old azimuths.now values.now qualities.now (sums_held counts.old quality_sums.old value_sums.old weighted_sums.old) }
     ensures { AddsAll (surveyed_gates entry_of survey first spacing (regular_rays (length entries.old) azimuths.now)) values.now qualities.now (lent_sums counts quality_sums value_sums weighted_sums) result }
 {
     let gates = entries.len();

@@ -27,9 +27,9 @@ pub fn take_out_rays(
     weighted_sums: &mut [u64],
 )
     requires { Surveyed survey
-        × GroupAddable first spacing entries.old azimuths.now values.now qualities.now (sums_held counts quality_sums value_sums weighted_sums)
+        × GroupAddable first spacing entries.old azimuths.now values.now qualities.now (sums_held counts.old quality_sums.old value_sums.old weighted_sums.old)
         × (rays ≤ length azimuths.now)
-        × RaysAdded (surveyed_gates entry_of survey first spacing (regular_rays (length entries.old) azimuths.now)) values.now qualities.now (rays * length entries.old) (sums_held counts quality_sums value_sums weighted_sums) }
+        × RaysAdded (surveyed_gates entry_of survey first spacing (regular_rays (length entries.old) azimuths.now)) values.now qualities.now (rays * length entries.old) (sums_held counts.old quality_sums.old value_sums.old weighted_sums.old) }
     ensures { let sums = lent_sums counts quality_sums value_sums weighted_sums in
         let gates = length entries.old in
         sums.entry ≡ added_first (surveyed_gates entry_of survey first spacing (regular_rays gates azimuths.now)) values.now qualities.now (rays * gates) sums.exit }

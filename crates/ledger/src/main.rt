@@ -1,5 +1,7 @@
 // Reads a scan record from standard input and prints its ledger: a heading, then a line for each gate of the record, ray by ray, with
 // one space between the fields. A record that is refused prints `refused` and its number.
+#![tactic(auto)]
+
 ghost use Rattle.std.specs.Prelude.{◌≡◌, ◌≤◌, ◌<◌};
 ghost use Rattle.scan.specs.Scan.{gates_of};
 ghost use Rattle.record_layout.specs.RecordPlaces.{head_in};

@@ -1,4 +1,6 @@
 // A record's gates as lines of text, with a heading.
+#![tactic(auto)]
+
 mod columns;
 mod heading;
 mod ledger;

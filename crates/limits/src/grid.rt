@@ -6,7 +6,7 @@ ghost use Rattle.limits.specs.Accepted.{size_accepted, grid_accepted};
 use refusal::{in_range, in_signed_range};
 
 // RADOLAN: the corner in centimetres from the pole, the side of a cell, columns and rows.
-#[derive(Drop)]
+#[derive(Clone, Copy)]
 pub struct RadolanGrid {
     pub x: i64,
     pub y: i64,
@@ -16,7 +16,7 @@ pub struct RadolanGrid {
 }
 
 // HRAP: the first column I and the first row J of the mesh, columns and rows.
-#[derive(Drop)]
+#[derive(Clone, Copy)]
 pub struct HrapGrid {
     pub i: i64,
     pub j: i64,
@@ -24,7 +24,7 @@ pub struct HrapGrid {
     pub rows: u32,
 }
 
-#[derive(Drop)]
+#[derive(Clone, Copy)]
 pub enum Grid {
     Radolan(RadolanGrid),
     Hrap(HrapGrid),

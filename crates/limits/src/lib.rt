@@ -1,4 +1,6 @@
 // Site, grid and weighting, and what is accepted of a site, a grid, an azimuth and a range: document 01, "The scan".
+#![tactic(auto)]
+
 mod gate;
 mod grid;
 mod site;

@@ -5,7 +5,7 @@ ghost use Rattle.limits.specs.Accepted.{site_accepted};
 use refusal::in_signed_range;
 
 // Latitude and longitude, in ten-thousandths of a degree, east positive.
-#[derive(Drop)]
+#[derive(Clone, Copy)]
 pub struct Site {
     pub latitude: i64,
     pub longitude: i64,

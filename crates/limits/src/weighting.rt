@@ -1,7 +1,7 @@
 // The weighting in which cells are published.
 
 // Each measured gate alike, or by its quality.
-#[derive(Drop)]
+#[derive(Clone, Copy)]
 pub enum Weighting {
     Plain,
     ByQuality,

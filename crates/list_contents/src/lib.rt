@@ -1,5 +1,7 @@
 // Writes fields 5 to 7 into a buffer, each with its tag and length. These functions are for our own crate `record_writer`, which has checked
 // the scan and the buffer's length.
+#![tactic(auto)]
+
 ghost use Rattle.std.specs.Prelude.{◌≡◌, ◌≤◌, ◌+◌, ◌*◌, length};
 ghost use Rattle.std.proofs.lemmas.List.Edits.{sets};
 ghost use Rattle.big_endian.specs.BigEndian.{all_bytes_of};

@@ -21,7 +21,7 @@ use limits::{Grid, Site, azimuth_accepted, grid_accepted, range_accepted, site_a
 use projection::{Position, RayTerms, arc_terms, position_of, ray_terms};
 
 // Where a gate lies: inside the grid in a cell, outside the grid, or refused with a number. Marked where X or Y lies near a line of the grid.
-#[derive(Drop)]
+#[derive(Clone, Copy)]
 pub enum Placement {
     Inside {
         cell: u32,

@@ -1,4 +1,6 @@
 // A gate to its position and its cell, and the ledger of one ray.
+#![tactic(auto)]
+
 mod gate;
 mod ledger;
 mod survey;

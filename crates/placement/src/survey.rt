@@ -7,7 +7,7 @@ use grid::{Sphere, Window, sphere_of, window_of};
 use limits::{Grid, Site};
 use projection::{SiteTerms, site_terms};
 
-#[derive(Drop)]
+#[derive(Clone, Copy)]
 pub struct Survey {
     pub terms: SiteTerms,
     pub sphere: Sphere,

@@ -5,7 +5,7 @@ ghost use Rattle.projection.specs.Arc.{arc_terms};
 const Q: u64 = 1073741824;
 
 // Sine and cosine of the arc, times Q.
-#[derive(Drop)]
+#[derive(Clone, Copy)]
 pub struct ArcTerms {
     pub sd: i64,
     pub cd: i64,

@@ -1,4 +1,6 @@
 // A gate to its position: document 01, "Projection" from "Arc" on.
+#![tactic(auto)]
+
 mod arc;
 mod over_q;
 mod position;

@@ -12,7 +12,7 @@ use limits::Site;
 const Q: i64 = 1073741824;
 
 // Sine and cosine, times Q, of the latitude, and of the longitude less the central meridian.
-#[derive(Drop)]
+#[derive(Clone, Copy)]
 pub struct SiteTerms {
     pub sp: i64,
     pub cp: i64,
@@ -21,14 +21,14 @@ pub struct SiteTerms {
 }
 
 // Sine and cosine of the azimuth, times Q.
-#[derive(Drop)]
+#[derive(Clone, Copy)]
 pub struct RayTerms {
     pub sa: i64,
     pub ca: i64,
 }
 
 // Centimetres east and north of the pole, on the plane of the projection.
-#[derive(Drop)]
+#[derive(Clone, Copy)]
 pub struct Position {
     pub x: i64,
     pub y: i64,

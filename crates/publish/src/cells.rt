@@ -17,8 +17,8 @@ pub fn publish_cells(
     means: &mut [u16],
     cell_qualities: &mut [u8],
 )
-    requires { Publishable (sums_held counts quality_sums value_sums weighted_sums) (cells_held means cell_qualities) }
-    ensures { (lent_cells means cell_qualities).exit ≡ published_cells weighting (sums_held counts.entry quality_sums.entry value_sums.entry weighted_sums.entry) }
+    requires { Publishable (sums_held counts.now quality_sums.now value_sums.now weighted_sums.now) (cells_held means.old cell_qualities.old) }
+    ensures { (lent_cells means cell_qualities).exit ≡ published_cells weighting (sums_held counts.now quality_sums.now value_sums.now weighted_sums.now) }
 {
     publish_means(
         weighting,
@@ -41,7 +41,7 @@ fn publish_means(
     means: &mut [u16],
 )
     requires { (length counts.now ≡ length means.old) × (length quality_sums.now ≡ length means.old) × (length value_sums.now ≡ length means.old) × (length weighted_sums.now ≡ length means.old) }
-    ensures { means.new ≡ (published_cells weighting (sums_held counts.entry quality_sums.entry value_sums.entry weighted_sums.entry)).means }
+    ensures { means.new ≡ (published_cells weighting (sums_held counts.now quality_sums.now value_sums.now weighted_sums.now)).means }
 {
     match weighting {
         Weighting::Plain => divide(value_sums, counts, means),

@@ -2,7 +2,7 @@
 ghost use Rattle.std.specs.Prelude.{◌≡◌};
 ghost use Rattle.publish.specs.Publication.{equally_long};
 
-#[derive(Drop)]
+#[derive(Clone, Copy)]
 pub struct PublishLengths {
     pub counts: usize,
     pub quality_sums: usize,

@@ -1,4 +1,6 @@
 // The published cells, from any counts and sums: means and qualities.
+#![tactic(auto)]
+
 mod cells;
 mod lengths;
 mod publish_sums;

@@ -17,7 +17,7 @@ pub fn publish(
     means: &mut [u16],
     cell_qualities: &mut [u8],
 ) -> Outcome
-    ensures { Publishes weighting (sums_held counts.entry quality_sums.entry value_sums.entry weighted_sums.entry) (lent_cells means cell_qualities) result }
+    ensures { Publishes weighting (sums_held counts.now quality_sums.now value_sums.now weighted_sums.now) (lent_cells means cell_qualities) result }
 {
     if !equally_long(PublishLengths {
         counts: counts.len(),

@@ -1,5 +1,7 @@
 // The gates of one ray, added onto the sums or taken out of them again. `entries` is room for the ray's ledger, of as many places as it has gates; its
 // marks, which no sum is made of, go into an array that is left.
+#![tactic(auto)]
+
 ghost use Rattle.std.specs.Prelude.{◌≡◌, length};
 ghost use Rattle.placement.specs.Gate.{entry_of};
 ghost use Rattle.placement.specs.Survey.{Surveyed, surveyed_ray};
@@ -26,7 +28,7 @@ pub fn add_ray(
     value_sums: &mut [u64],
     weighted_sums: &mut [u64],
 ) -> bool
-    requires { Surveyed survey × RayAddable first spacing entries.old values.now qualities.now (sums_held counts quality_sums value_sums weighted_sums) }
+    requires { Surveyed survey × RayAddable first spacing entries.old values.now qualities.now (sums_held counts.old quality_sums.old value_sums.old weighted_sums.old) }
     ensures { AddsAll (surveyed_ray entry_of survey first spacing azimuth (length entries.old)) values.now qualities.now (lent_sums counts quality_sums value_sums weighted_sums) result }
 {
     let gates = entries.len();
@@ -72,8 +74,8 @@ pub fn take_out_ray(
     value_sums: &mut [u64],
     weighted_sums: &mut [u64],
 )
-    requires { Surveyed survey × RayAddable first spacing entries.old values.now qualities.now (sums_held counts quality_sums value_sums weighted_sums)
-        × AddedBefore (surveyed_ray entry_of survey first spacing azimuth (length entries.old)) values.now qualities.now (sums_held counts quality_sums value_sums weighted_sums) }
+    requires { Surveyed survey × RayAddable first spacing entries.old values.now qualities.now (sums_held counts.old quality_sums.old value_sums.old weighted_sums.old)
+        × AddedBefore (surveyed_ray entry_of survey first spacing azimuth (length entries.old)) values.now qualities.now (sums_held counts.old quality_sums.old value_sums.old weighted_sums.old) }
     ensures { let sums = lent_sums counts quality_sums value_sums weighted_sums in
         sums.entry ≡ added_sums (surveyed_ray entry_of survey first spacing azimuth (length entries.old)) values.now qualities.now sums.exit }
 {

@@ -1,5 +1,7 @@
 // Writes fields 1 to 4 into a buffer, each with its tag and length. These functions are for our own crates: `record_writer` has checked the
 // scan and the buffer's length.
+#![tactic(auto)]
+
 ghost use Rattle.std.specs.Prelude.{◌≡◌, true, ◌≤◌, ◌+◌, length};
 ghost use Rattle.std.proofs.lemmas.List.Edits.{sets};
 ghost use Rattle.limits.specs.Accepted.{site_accepted, grid_accepted};

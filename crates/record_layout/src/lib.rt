@@ -1,4 +1,6 @@
 // Where the numbers of a scan record stand, and what is refused of it.
+#![tactic(auto)]
+
 mod checks;
 mod head;
 mod layout;

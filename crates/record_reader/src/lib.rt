@@ -1,4 +1,6 @@
 // A scan record that is read.
+#![tactic(auto)]
+
 mod field_part;
 mod gates;
 mod reader;

@@ -11,7 +11,7 @@ use big_endian::{byte_at, u16_at, u32_at};
 use record_layout::{content_start, head_in, record_refusal};
 use scan::ScanHead;
 
-#[derive(Drop)]
+#[derive(Clone, Copy)]
 pub enum ReadScan {
     Head(ScanHead),
     Refused(u32),

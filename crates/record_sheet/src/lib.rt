@@ -1,4 +1,6 @@
 // The sheet of a good record within the two sizes, by lists that are lent.
+#![tactic(auto)]
+
 ghost use Rattle.std.specs.Prelude.{true, ◌≡◌, ◌≤◌};
 ghost use Rattle.tally.specs.LentSums.{cells_held};
 ghost use Rattle.scan.specs.LentLists.{lists_held};
@@ -28,7 +30,7 @@ pub fn cells_text(
     cell_qualities: &mut [u8],
     page: &mut [u8; 120000],
 ) -> usize
-    requires { Sized bytes.now head × (lists_exact (scan_held head azimuths values qualities) (lists_held ledger marks counts quality_sums value_sums weighted_sums) ≡ true) × CellRoom head (cells_held means cell_qualities) }
+    requires { Sized bytes.now head × (lists_exact (scan_held head azimuths.old values.old qualities.old) (lists_held ledger.old marks.old counts.old quality_sums.old value_sums.old weighted_sums.old) ≡ true) × CellRoom head (cells_held means.old cell_qualities.old) }
     ensures upper_bound { result ≤ 120000 }
     ensures stored { Stored page.old 0 (good_sheet bytes.now) result page.new }
 {

@@ -1,4 +1,6 @@
 // A scan record that is written.
+#![tactic(auto)]
+
 mod writer;
 
 pub use writer::{WrittenScan, write_scan};

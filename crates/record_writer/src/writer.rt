@@ -13,7 +13,7 @@ use list_contents::{put_azimuths, put_qualities, put_values};
 use record_contents::{put_gates, put_grid, put_site, put_weighting};
 use scan::ScanHead;
 
-#[derive(Drop)]
+#[derive(Clone, Copy)]
 pub enum WrittenScan {
     Length(usize),
     Refused(u32),
@@ -27,7 +27,7 @@ pub fn write_scan(
     qualities: &[u8],
     buffer: &mut [u8],
 ) -> WrittenScan
-    ensures { Writes (scan_held head azimuths.entry values.entry qualities.entry) (lent_bytes buffer) result }
+    ensures { Writes (scan_held head azimuths.now values.now qualities.now) (lent_bytes buffer) result }
 {
     let refusal = write_refusal(head, azimuths, values, qualities, buffer.len());
     if refusal != 0 {
@@ -45,7 +45,7 @@ fn write_refusal(
     qualities: &[u8],
     room: usize,
 ) -> u32
-    ensures { result ≡ write_refusal (scan_held head azimuths.entry values.entry qualities.entry) room }
+    ensures { result ≡ write_refusal (scan_held head azimuths.now values.now qualities.now) room }
 {
     let lists_exact = scan::lists_accepted(head, azimuths.len(), values.len(), qualities.len());
     let number = scan::scan_refusal(
@@ -85,8 +85,8 @@ fn record_length(head: ScanHead) -> usize
 
 // The seven fields, one behind the other.
 fn put_record(head: ScanHead, azimuths: &[u32], values: &[u16], qualities: &[u8], buffer: &mut [u8])
-    requires { Writable (scan_held head azimuths values qualities) (length buffer.old) }
-    ensures { buffer.new ≡ sets buffer.old 0 (record_of (scan_held head azimuths.entry values.entry qualities.entry)) }
+    requires { Writable (scan_held head azimuths.now values.now qualities.now) (length buffer.old) }
+    ensures { buffer.new ≡ sets buffer.old 0 (record_of (scan_held head azimuths.now values.now qualities.now)) }
 {
     let site = head.site;
     let grid = head.grid;

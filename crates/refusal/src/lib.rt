@@ -1,4 +1,6 @@
 // What a refusal is: checks in order, limits of a number, and what a call answers and leaves.
+#![tactic(auto)]
+
 mod outcome;
 mod range;
 mod unsigned;

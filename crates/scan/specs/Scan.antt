@@ -2,7 +2,6 @@
 use Rattle.std.specs.Prelude.{List, ℕ, ◌*◌}
 use Rattle.grid.specs.Window.{window_of}
 use Rattle.scan.specs.declared.head.ScanHead.{ScanHead}
-use Rattle.tally.specs.LentSums.{Slice}
 use Rattle.scan.specs.Rays.{Ray, regular_rays}
 
 -- an azimuth for each ray; a value and a quality for each gate, ray by ray
@@ -12,8 +11,8 @@ pub record Scan : Type 0 where
   pub values : List ℕ
   pub qualities : List ℕ
 
-abbrev pub scan_held : ScanHead → Slice → Slice → Slice → Scan
-scan_held head azimuths values qualities = record { head = head; azimuths = azimuths.now; values = values.now; qualities = qualities.now }
+abbrev pub scan_held : ScanHead → List ℕ → List ℕ → List ℕ → Scan
+scan_held head azimuths values qualities = record { head = head; azimuths = azimuths; values = values; qualities = qualities }
 
 unfoldable pub rays_of : Scan → List Ray
 rays_of scan = regular_rays scan.head.gates scan.azimuths

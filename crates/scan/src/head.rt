@@ -5,7 +5,7 @@ ghost use Rattle.scan.specs.Scan.{gates_of, cells_of};
 use limits::{Grid, Site, Weighting};
 
 // What a scan is besides its lists.
-#[derive(Drop)]
+#[derive(Clone, Copy)]
 pub struct ScanHead {
     pub site: Site,
     pub rays: u32,

@@ -5,7 +5,7 @@ ghost use Rattle.scan.specs.ScanRefusal.{lists_accepted, lengths_accepted};
 use crate::head::{ScanHead, cells_of, gates_of};
 
 // The lengths of a scan's lists, lent ones too.
-#[derive(Drop)]
+#[derive(Clone, Copy)]
 pub struct Lengths {
     pub azimuths: usize,
     pub values: usize,

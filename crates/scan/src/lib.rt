@@ -1,4 +1,6 @@
 // A scan: its numbers, the lengths of its lists, and what is refused of it.
+#![tactic(auto)]
+
 mod checks;
 mod head;
 mod lengths;

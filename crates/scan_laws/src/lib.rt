@@ -1,1 +1,2 @@
 // What holds of a whole scan, and the table of starred cases: see specs/ and proofs/.
+#![tactic(auto)]

@@ -1,4 +1,6 @@
 // The ledger of rays and their marks, one ray after the other, from a place on.
+#![tactic(auto)]
+
 ghost use Rattle.std.specs.Prelude.{◌≡◌};
 ghost use Rattle.std.proofs.lemmas.List.Edits.{sets};
 ghost use Rattle.placement.specs.Gate.{entry_of, mark_of};

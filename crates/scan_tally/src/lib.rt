@@ -1,4 +1,6 @@
 // The tally of a scan: one scan, one site and one grid come in; out come the ledger, the marks and the cell sums.
+#![tactic(auto)]
+
 ghost use Rattle.scan.specs.LentLists.{lent_lists};
 ghost use Rattle.scan.specs.Scan.{scan_held};
 ghost use Rattle.scan_tally.specs.ScanTally.{Tallies};
@@ -23,7 +25,7 @@ pub fn tally(
     weighted_sums: &mut [u64],
 ) -> Outcome
     ensures { Tallies
-        (scan_held head azimuths.entry values.entry qualities.entry)
+        (scan_held head azimuths.now values.now qualities.now)
         (lent_lists ledger marks counts quality_sums value_sums weighted_sums) result }
 {
     let given = Lengths {

@@ -1,4 +1,6 @@
 // Reads a scan record from standard input and prints its sheet.
+#![tactic(auto)]
+
 use libc::{STDIN_FILENO, STDOUT_FILENO};
 
 fn main() {

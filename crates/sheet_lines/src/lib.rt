@@ -1,5 +1,7 @@
 // Lines of a sheet, stored in a page one behind the other. Each function answers the place behind the last byte that it stored, and is
 // ours alone. A number takes 20 digits at most.
+#![tactic(auto)]
+
 ghost use Rattle.std.specs.Prelude.{◌≡◌, ◌≤◌, ◌+◌, length, get_or};
 ghost use Rattle.arithmetic.specs.Places.{sum_to};
 ghost use Rattle.text.specs.StoredText.{Stored};

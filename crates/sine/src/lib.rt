@@ -1,4 +1,6 @@
 // Document 01, "Sine of any angle": sine and cosine times Q = 2^30, of an angle in ten-thousandths of a degree.
+#![tactic(auto)]
+
 ghost use Rattle.std.specs.Prelude.{◌≡◌, ◌*◌, ◌<◌, ◌≤◌, neg_ℤ};
 ghost use Rattle.arithmetic.specs.Floor.{◌modulo◌};
 ghost use Rattle.sine.specs.Quarters.{in_turn};

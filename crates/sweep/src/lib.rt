@@ -1,4 +1,6 @@
 // A sweep: a scan whose rays are fed while the antenna turns.
+#![tactic(auto)]
+
 ghost use Rattle.tally.specs.LentSums.{sums_held, lent_sums, lent_cells};
 ghost use Rattle.scan.specs.LentLists.{lent_lists};
 ghost use Rattle.accepted_take.specs.RayGroup.{group_held};
@@ -13,7 +15,7 @@ use sweep_checks::{
 use tally::clear_sums;
 
 // The state: the scan's head, how many of its rays were taken, and whether it is closed. Plain data, which its owner may keep, copy or alter.
-#[derive(Drop)]
+#[derive(Clone, Copy)]
 pub struct Sweep {
     pub head: ScanHead,
     pub taken: u32,
@@ -21,7 +23,7 @@ pub struct Sweep {
 }
 
 // The new state, or the number of a refusal, which leaves the state and every lent list as they came in.
-#[derive(Drop)]
+#[derive(Clone, Copy)]
 pub enum Swept {
     State(Sweep),
     Refused(u32),
@@ -71,7 +73,7 @@ impl Sweep {
         value_sums: &mut [u64],
         weighted_sums: &mut [u64],
     ) -> Swept
-        ensures { Takes self (group_held azimuths.entry values.entry qualities.entry) (lent_lists ledger marks counts quality_sums value_sums weighted_sums) result }
+        ensures { Takes self (group_held azimuths.now values.now qualities.now) (lent_lists ledger marks counts quality_sums value_sums weighted_sums) result }
     {
         let head = self.head;
         let number = take_refusal(
@@ -129,7 +131,7 @@ impl Sweep {
         means: &mut [u16],
         cell_qualities: &mut [u8],
     ) -> Swept
-        ensures { Closes self (sums_held counts.entry quality_sums.entry value_sums.entry weighted_sums.entry) (lent_cells means cell_qualities) result }
+        ensures { Closes self (sums_held counts.now quality_sums.now value_sums.now weighted_sums.now) (lent_cells means cell_qualities) result }
     {
         let head = self.head;
         let weighting = head.weighting;

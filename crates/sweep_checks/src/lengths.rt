@@ -4,7 +4,7 @@ ghost use Rattle.sweep_checks.specs.SweepLengths.{sums_accepted, group_accepted,
 
 use scan::{ScanHead, cells_of, gates_of};
 
-#[derive(Drop)]
+#[derive(Clone, Copy)]
 pub struct SumLengths {
     pub counts: usize,
     pub quality_sums: usize,
@@ -13,7 +13,7 @@ pub struct SumLengths {
 }
 
 // Those of a group of rays, and of ledger and marks.
-#[derive(Drop)]
+#[derive(Clone, Copy)]
 pub struct GroupLengths {
     pub azimuths: usize,
     pub values: usize,
@@ -22,7 +22,7 @@ pub struct GroupLengths {
     pub marks: usize,
 }
 
-#[derive(Drop)]
+#[derive(Clone, Copy)]
 pub struct CellLengths {
     pub means: usize,
     pub cell_qualities: usize,

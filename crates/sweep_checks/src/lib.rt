@@ -1,4 +1,6 @@
 // What is refused of a sweep: the numbers of its state, and the lengths of the lists that an operation is lent.
+#![tactic(auto)]
+
 mod lengths;
 mod refusal_numbers;
 

@@ -1,1 +1,2 @@
 // What holds of a whole sweep: see specs/ and proofs/.
+#![tactic(auto)]

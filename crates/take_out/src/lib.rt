@@ -1,4 +1,6 @@
 // Gates taken out of the sums again.
+#![tactic(auto)]
+
 ghost use Rattle.std.specs.Prelude.{◌≡◌};
 ghost use Rattle.tally.specs.LentSums.{sums_held, lent_sums};
 ghost use Rattle.tally.specs.Tally.{added_sums};
@@ -17,7 +19,7 @@ pub fn take_out_gates(
     value_sums: &mut [u64],
     weighted_sums: &mut [u64],
 )
-    requires { AddedBefore ledger.now values.now qualities.now (sums_held counts quality_sums value_sums weighted_sums) }
+    requires { AddedBefore ledger.now values.now qualities.now (sums_held counts.old quality_sums.old value_sums.old weighted_sums.old) }
     ensures { let sums = lent_sums counts quality_sums value_sums weighted_sums in
         sums.entry ≡ added_sums ledger.now values.now qualities.now sums.exit }
 {

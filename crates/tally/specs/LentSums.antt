@@ -1,6 +1,6 @@
 -- The lists that are lent for cells, as records, and a contract's parameters as these records. Assumes nothing.
 use Rattle.std.specs.Prelude.{List, ℕ}
-use Rattle.std.specs.Borrow.{Bor}
+use Rattle.std.specs.Borrow.{MutBor}
 use denote.Triple.Both.{Both}
 
 -- a number for each cell
@@ -17,33 +17,33 @@ pub record Cells : Type 0 where
 
 -- ---- what slices hold
 
-abbrev pub Slice : Type 0
-Slice = Bor (List ℕ)
-
-abbrev pub sums_held : Slice → Slice → Slice → Slice → Sums
+abbrev pub sums_held : List ℕ → List ℕ → List ℕ → List ℕ → Sums
 sums_held counts quality_sums value_sums weighted_sums = record {
-  counts = counts.now;
-  quality_sums = quality_sums.now;
-  value_sums = value_sums.now;
-  weighted_sums = weighted_sums.now;
+  counts = counts;
+  quality_sums = quality_sums;
+  value_sums = value_sums;
+  weighted_sums = weighted_sums;
 }
 
-abbrev pub cells_held : Slice → Slice → Cells
-cells_held means qualities = record { means = means.now; qualities = qualities.now }
+abbrev pub cells_held : List ℕ → List ℕ → Cells
+cells_held means qualities = record { means = means; qualities = qualities }
 
 -- ---- the same, as a call finds them and as it leaves them
+
+abbrev pub Slice : Type 0
+Slice = MutBor (List ℕ)
 
 abbrev pub Lent : Type 0
 Lent = Both Slice Slice
 
 abbrev pub lent_sums : Lent → Lent → Lent → Lent → Both Sums Sums
 lent_sums counts quality_sums value_sums weighted_sums = record {
-  entry = sums_held counts.entry quality_sums.entry value_sums.entry weighted_sums.entry;
-  exit = sums_held counts.exit quality_sums.exit value_sums.exit weighted_sums.exit;
+  entry = sums_held counts.entry.now quality_sums.entry.now value_sums.entry.now weighted_sums.entry.now;
+  exit = sums_held counts.exit.now quality_sums.exit.now value_sums.exit.now weighted_sums.exit.now;
 }
 
 abbrev pub lent_cells : Lent → Lent → Both Cells Cells
 lent_cells means qualities = record {
-  entry = cells_held means.entry qualities.entry;
-  exit = cells_held means.exit qualities.exit;
+  entry = cells_held means.entry.now qualities.entry.now;
+  exit = cells_held means.exit.now qualities.exit.now;
 }

@@ -1,4 +1,6 @@
 // What the gates give to their cells: counts and sums.
+#![tactic(auto)]
+
 mod clear;
 mod gates;
 mod room;

@@ -16,7 +16,7 @@ pub fn add_gates(
     value_sums: &mut [u64],
     weighted_sums: &mut [u64],
 ) -> usize
-    requires { Addable ledger.now values.now qualities.now (sums_held counts quality_sums value_sums weighted_sums) }
+    requires { Addable ledger.now values.now qualities.now (sums_held counts.old quality_sums.old value_sums.old weighted_sums.old) }
     ensures { AddsGates ledger.now values.now qualities.now (lent_sums counts quality_sums value_sums weighted_sums) result }
 {
     let mut k = 0;

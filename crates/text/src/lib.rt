@@ -1,4 +1,6 @@
 // Decimal text stored in a buffer: words, numbers, fields of a line, and the line of a refusal.
+#![tactic(auto)]
+
 mod decimal;
 mod fields;
 mod refused;

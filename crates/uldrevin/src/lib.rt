@@ -1,4 +1,6 @@
 // What C, Rust and Python link: the proved functions under C names.
+#![tactic(auto)]
+
 pub mod gate;
 pub mod published_sums;
 pub mod record;

@@ -14,7 +14,7 @@ pub extern "C" fn uldrevin_publish(
     means: &mut [u16],
     cell_qualities: &mut [u8],
 ) -> u32
-    ensures { PublishesSums weighting counts quality_sums value_sums weighted_sums means cell_qualities result }
+    ensures { PublishesSums weighting counts.now quality_sums.now value_sums.now weighted_sums.now means cell_qualities result }
 {
     answer_publish(
         weighting,

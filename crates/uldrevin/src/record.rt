@@ -68,7 +68,7 @@ pub extern "C" fn uldrevin_record_write(
     buffer: &mut [u8],
     size: &mut u64,
 ) -> u32
-    ensures { let given = scan_held (head_of scan.now) azimuths.entry values.entry qualities.entry in
+    ensures { let given = scan_held (head_of scan.now) azimuths.now values.now qualities.now in
         let lent = lent_written buffer size in
         Answers (write_refusal given (length lent.entry.buffer)) (record { buffer = buffer_with given lent.entry.buffer; size = length (record_of given) }) lent result }
 {

@@ -16,7 +16,7 @@ pub extern "C" fn uldrevin_tally(
     value_sums: &mut [u64],
     weighted_sums: &mut [u64],
 ) -> u32
-    ensures { TalliesScan scan azimuths values qualities ledger marks counts quality_sums value_sums weighted_sums result }
+    ensures { TalliesScan scan.now azimuths.now values.now qualities.now ledger marks counts quality_sums value_sums weighted_sums result }
 {
     answer_tally(
         scan,

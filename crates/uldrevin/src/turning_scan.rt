@@ -13,7 +13,7 @@ pub extern "C" fn uldrevin_sweep_open(
     weighted_sums: &mut [u64],
     sweep: &mut [i64; 15],
 ) -> u32
-    ensures { OpensSweep scan counts quality_sums value_sums weighted_sums sweep result }
+    ensures { OpensSweep scan.now counts quality_sums value_sums weighted_sums sweep result }
 {
     answer_open(scan, counts, quality_sums, value_sums, weighted_sums, sweep)
 }
@@ -31,7 +31,7 @@ pub extern "C" fn uldrevin_sweep_take(
     value_sums: &mut [u64],
     weighted_sums: &mut [u64],
 ) -> u32
-    ensures { TakesRays sweep azimuths values qualities ledger marks counts quality_sums value_sums weighted_sums result }
+    ensures { TakesRays sweep azimuths.now values.now qualities.now ledger marks counts quality_sums value_sums weighted_sums result }
 {
     answer_take(
         sweep,
@@ -57,7 +57,7 @@ pub extern "C" fn uldrevin_sweep_close(
     means: &mut [u16],
     cell_qualities: &mut [u8],
 ) -> u32
-    ensures { ClosesSweep sweep counts quality_sums value_sums weighted_sums means cell_qualities result }
+    ensures { ClosesSweep sweep counts.now quality_sums.now value_sums.now weighted_sums.now means cell_qualities result }
 {
     answer_close(
         sweep,

@@ -1,8 +1,10 @@
 // Whole numbers read from words.
+#![tactic(auto)]
+
 ghost use Rattle.std.specs.Prelude.{◌≡◌, true, ◌<◌};
 ghost use Rattle.word_value.specs.WordValue.{is_natural, value_of, parsed};
 
-#[derive(Drop)]
+#[derive(Clone, Copy)]
 pub enum Parsed {
     Number(i64),
     Wrong,
