@@ -241,7 +241,7 @@ overflow_mul-k-2 c =
     rw (minus-k-word c, v-word c) (fits64 (magnitude_product (magnitude_negation h.k_limit) (v_limit o.args.s o.args.a o.args.c o.args.k h)) tt)
 
 pub floor_div-requires-2 : goal.floor_div-requires-2
-floor_div-requires-2 c = floor_div-requires c.before κs
+floor_div-requires-2 c = floor_div-requires c.before
 
 y-is : (c : goal.After-floor_div-2) → c.floor_div-2.result ≡ Y c.args.s c.args.a c.args.c c.args.k
 unfolding Y
