@@ -62,46 +62,42 @@ azimuth-passed : (c : goal.Else-not-azimuth_accepted) → azimuth_accepted c.arg
 azimuth-passed c = sym c.azimuth_accepted.ensures ∙ not-false _ c.if-not-azimuth_accepted.false-raw
 
 -- ---- the five answers
--- what the rule says of what came in
-abbrev rule : goal.Start → Placement
-rule s = placement_of s.args.site s.args.grid s.args.azimuth s.args.range
-
-range-answer : (c : goal.Then-not-range_accepted) → Refused 3 ≡ rule c.before.before
+range-answer : (c : goal.Then-not-range_accepted) → Refused 3 ≡ placement_of c.args.site c.args.grid c.args.azimuth c.args.range
 unfolding placement_of unless_refused gate_refusal first_refusal
 range-answer c = simp (range-refused c)
 
-site-answer : (c : goal.Then-not-site_accepted) → Refused 4 ≡ rule c.before.before.before.before
+site-answer : (c : goal.Then-not-site_accepted) → Refused 4 ≡ placement_of c.args.site c.args.grid c.args.azimuth c.args.range
 unfolding placement_of unless_refused gate_refusal first_refusal
 site-answer c = simp (range-passed-4 c, site-refused c)
 
-grid-answer : (c : goal.Then-not-grid_accepted) → Refused 5 ≡ rule c.before.before.before.before.before.before
+grid-answer : (c : goal.Then-not-grid_accepted) → Refused 5 ≡ placement_of c.args.site c.args.grid c.args.azimuth c.args.range
 unfolding placement_of unless_refused gate_refusal first_refusal
 grid-answer c = simp (range-passed-3 c, site-passed-3 c, grid-refused c)
 
-azimuth-answer : (c : goal.Then-not-azimuth_accepted) → Refused 7 ≡ rule c.before.before.before.before.before.before.before.before
+azimuth-answer : (c : goal.Then-not-azimuth_accepted) → Refused 7 ≡ placement_of c.args.site c.args.grid c.args.azimuth c.args.range
 unfolding placement_of unless_refused gate_refusal first_refusal
 azimuth-answer c = simp (range-passed-2 c, site-passed-2 c, grid-passed-2 c, azimuth-refused c)
 
-accepted-answer : (c : goal.After-accepted_place) → c.accepted_place.result ≡ rule c.before.before.before.before.before.before.before.before.before
+accepted-answer : (c : goal.After-accepted_place) → c.accepted_place.result ≡ placement_of c.args.site c.args.grid c.args.azimuth c.args.range
 unfolding placement_of unless_refused gate_refusal first_refusal
 accepted-answer c =
     simp (range-passed c.before, site-passed c.before, grid-passed c.before, azimuth-passed c.before) c.accepted_place.ensures
 
 pub returns-then-not-range_accepted : goal.returns-then-not-range_accepted
 unfolding PositionWithin ExactUnlessMarked
-returns-then-not-range_accepted c = (range-answer c, (numbers_told _ _ _ _ (range-answer c), (tt, tt)))
+returns-then-not-range_accepted c = record { rule = range-answer c; numbers = numbers_told _ _ _ _ (range-answer c); within_50_centimetres = tt; exact_unless_marked = tt }
 
 pub returns-then-not-site_accepted : goal.returns-then-not-site_accepted
 unfolding PositionWithin ExactUnlessMarked
-returns-then-not-site_accepted c = (site-answer c, (numbers_told _ _ _ _ (site-answer c), (tt, tt)))
+returns-then-not-site_accepted c = record { rule = site-answer c; numbers = numbers_told _ _ _ _ (site-answer c); within_50_centimetres = tt; exact_unless_marked = tt }
 
 pub returns-then-not-grid_accepted : goal.returns-then-not-grid_accepted
 unfolding PositionWithin ExactUnlessMarked
-returns-then-not-grid_accepted c = (grid-answer c, (numbers_told _ _ _ _ (grid-answer c), (tt, tt)))
+returns-then-not-grid_accepted c = record { rule = grid-answer c; numbers = numbers_told _ _ _ _ (grid-answer c); within_50_centimetres = tt; exact_unless_marked = tt }
 
 pub returns-then-not-azimuth_accepted : goal.returns-then-not-azimuth_accepted
 unfolding PositionWithin ExactUnlessMarked
-returns-then-not-azimuth_accepted c = (azimuth-answer c, (numbers_told _ _ _ _ (azimuth-answer c), (tt, tt)))
+returns-then-not-azimuth_accepted c = record { rule = azimuth-answer c; numbers = numbers_told _ _ _ _ (azimuth-answer c); within_50_centimetres = tt; exact_unless_marked = tt }
 
 pub accepted_place-requires : goal.accepted_place-requires
 accepted_place-requires c = (range-passed c, site-passed c, grid-passed c)
@@ -109,15 +105,6 @@ accepted_place-requires c = (range-passed c, site-passed c, grid-passed c)
 pub returns : goal.returns
 returns c =
     let s = c in
-    let good = good_gate s.args.site s.args.azimuth s.args.range (range-passed c.before) (site-passed c.before) in (
-      accepted-answer c,
-      (
-        numbers_told _ _ _ _ (accepted-answer c),
-        (
-          subst (PositionWithin _ s.args.site s.args.grid s.args.azimuth s.args.range) (sym c.accepted_place.ensures)
-              (located_within s.args.site s.args.grid s.args.azimuth s.args.range good _ (lit≤ tt)),
-          subst (ExactUnlessMarked s.args.site s.args.grid s.args.azimuth s.args.range) (sym c.accepted_place.ensures)
-              (located_exact s.args.site s.args.grid s.args.azimuth s.args.range good (grid-passed c.before)),
-        ),
-      ),
-    )
+    let good = good_gate s.args.site s.args.azimuth s.args.range (range-passed c.before) (site-passed c.before) in record { rule = accepted-answer c; numbers = numbers_told _ _ _ _ (accepted-answer c); within_50_centimetres = subst (PositionWithin _ s.args.site s.args.grid s.args.azimuth s.args.range) (sym c.accepted_place.ensures)
+              (located_within s.args.site s.args.grid s.args.azimuth s.args.range good _ (lit≤ tt)); exact_unless_marked = subst (ExactUnlessMarked s.args.site s.args.grid s.args.azimuth s.args.range) (sym c.accepted_place.ensures)
+              (located_exact s.args.site s.args.grid s.args.azimuth s.args.range good (grid-passed c.before)) }

@@ -5,6 +5,7 @@ use Prim.Native.Nat.{ℕ, ◌+◌, ◌*◌, ◌-◌, ◌≤◌}
 use native.Mathlib.Nat.{le_antisymm}
 use native.Mathlib.Omega.{arith}
 use borrow.Author.Rules.{scaled_Fits}
+use borrow.Enum.Refused.{opened}
 use lib.ListN.{length}
 use Rattle.placement.specs.declared.gate.Placement.{Placement}
 use Rattle.placement.specs.Gate.{entry_of, mark_of}
@@ -18,7 +19,7 @@ use Rattle.placement.proofs.ledger.ray_ledger.Goals as goal
 gate_range : (c : goal.In-loop-k) → c.args.first + (c.loop-k.k - c.args.start) * c.args.spacing ≤ 46000000
 gate_range c = c.requires.1.ranges c.loop-k.k c.loop-k-test.true
 
-told_is : (told : Placement → ℕ) (c : goal.After-gate_at-placement) → told c.gate_at-placement.result ≡ surveyed_gate told c.args.survey c.args.azimuth (c.args.first + (c.loop-k.k - c.args.start) * c.args.spacing)
+told_is : (told : Placement → ℕ) (c : goal.After-mark_of) → told c.gate_at-placement.result ≡ surveyed_gate told c.args.survey c.args.azimuth (c.args.first + (c.loop-k.k - c.args.start) * c.args.spacing)
 unfolding surveyed_gate
 told_is told c = ap told (rw c.ray_terms-ray.ensures at c.gate_at-placement.ensures)
 
@@ -48,13 +49,13 @@ bounds-marks-k c = omega (arith, c.loop-k.invariant.3.same_length, c.requires.1.
 pub offset_bounds-ledger-k : goal.offset_bounds-ledger-k
 offset_bounds-ledger-k c =
     let s = c in
-    scaled_Fits c.loop-k.k (length s.args.ledger.now) 4 (omega arith) s.well-formed.1.1.1.1.0.1
+    scaled_Fits c.loop-k.k (length s.args.ledger.now) 4 (omega arith) s.well_formed.1.1.1.1.0.1
 
 pub bounds-ledger-k : goal.bounds-ledger-k
 bounds-ledger-k c = omega (arith, c.loop-k.invariant.2.same_length)
 
 pub overflow_add-k : goal.overflow_add-k
-overflow_add-k c = omega (arith, c.well-formed.1.1.1.1.0.0)
+overflow_add-k c = omega (arith, c.well_formed.1.1.1.1.0.0)
 
 pub loop-k-smaller-in_default : goal.loop-k-smaller-in_default
 loop-k-smaller-in_default c = omega arith
@@ -64,20 +65,20 @@ loop-k-preserved-in_default c =
     let l = c.loop-k in (
       omega arith,
       omega arith,
-      storing_next _ _ _ _ _ _ l.invariant.0 l.invariant.2 (not_inside c.gate_at-placement.result c.in-Inside.in-Inside-own.keys2 ∙ told_is entry_of c.before.before),
-      storing_next _ _ _ _ _ _ l.invariant.0 l.invariant.3 (c.mark_of.ensures ∙ told_is mark_of c.before.before),
+      storing_next _ _ _ _ _ _ l.invariant.0 l.invariant.2 (not_inside c.gate_at-placement.result (opened c.in_default.in_default-own.keys2) ∙ told_is entry_of c.before),
+      storing_next _ _ _ _ _ _ l.invariant.0 l.invariant.3 (c.mark_of.ensures ∙ told_is mark_of c.before),
     )
 
 pub offset_bounds-ledger-k-in-loop-k : goal.offset_bounds-ledger-k-in-loop-k
 offset_bounds-ledger-k-in-loop-k c =
     let s = c in
-    scaled_Fits c.loop-k.k (length s.args.ledger.now) 4 (omega arith) s.well-formed.1.1.1.1.0.1
+    scaled_Fits c.loop-k.k (length s.args.ledger.now) 4 (omega arith) s.well_formed.1.1.1.1.0.1
 
 pub bounds-ledger-k-in-loop-k : goal.bounds-ledger-k-in-loop-k
 bounds-ledger-k-in-loop-k c = omega (arith, c.loop-k.invariant.2.same_length)
 
 pub overflow_add-k-in-loop-k : goal.overflow_add-k-in-loop-k
-overflow_add-k-in-loop-k c = omega (arith, c.well-formed.1.1.1.1.0.0)
+overflow_add-k-in-loop-k c = omega (arith, c.well_formed.1.1.1.1.0.0)
 
 pub loop-k-smaller : goal.loop-k-smaller
 loop-k-smaller c = omega arith
@@ -88,12 +89,12 @@ loop-k-preserved c =
     let l = c.loop-k in (
       omega arith,
       omega arith,
-      storing_next _ _ _ _ _ _ l.invariant.0 l.invariant.2 (sym (ap entry_of c.in-Inside.is) ∙ told_is entry_of c.before.before.before.before),
-      storing_next _ _ _ _ _ _ l.invariant.0 l.invariant.3 (c.mark_of.ensures ∙ told_is mark_of c.before.before.before.before),
+      storing_next _ _ _ _ _ _ l.invariant.0 l.invariant.2 (sym (ap entry_of c.in-Inside.is) ∙ told_is entry_of c.before),
+      storing_next _ _ _ _ _ _ l.invariant.0 l.invariant.3 (c.mark_of.ensures ∙ told_is mark_of c.before),
     )
 
 pub returns : goal.returns
 unfolding surveyed_ray
 returns c =
     let l = c.loop-k in
-    rw (sym (le_antisymm l.invariant.1 c.loop-k-test.false)) (l.invariant.2.stored, l.invariant.3.stored)
+    rw (sym (le_antisymm l.invariant.1 c.loop-k-test.false)) (record { entries = l.invariant.2.stored; marks = l.invariant.3.stored })
