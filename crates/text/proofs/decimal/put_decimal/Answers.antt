@@ -7,5 +7,8 @@ use Rattle.text.proofs.decimal.put_decimal.Goals as goal
 pub returns : goal.returns
 unfolding decimal_of
 returns c =
-    let call = c in
-    (call.put_digits.ensures.value, (omega (arith, decimal_length_most call.args.n), call.put_digits.ensures.buffer_after))
+    record {
+      value = c.put_digits.ensures.value;
+      upper_bound = omega (arith, decimal_length_most c.args.n);
+      buffer_after = c.put_digits.ensures.buffer_after;
+    }

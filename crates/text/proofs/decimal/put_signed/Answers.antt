@@ -39,30 +39,29 @@ put_digits-requires c = simp length-set (omega arith)
 
 pub returns-then-z-lt0 : goal.returns-then-z-lt0
 returns-then-z-lt0 c =
-    let call = c in
-    let negative = call in
-    let s = negative in
-    negative_stored s.args.buffer.now _ s.args.at call.put_digits.result s.args.z (below negative) s.ranges.z.sfits
-    (rw (back negative) at call.put_digits.ensures.value)
-    (rw (back negative) at call.put_digits.ensures.buffer_after)
+    let s = c.args in
+    let call = c.put_digits in
+    let all =
+    negative_stored s.buffer.now _ s.at call.result s.z (below c.before.before.before.before.before) c.ranges.z.sfits
+    (rw (back c.before.before.before.before.before) at call.ensures.value)
+    (rw (back c.before.before.before.before.before) at call.ensures.buffer_after) in
+    record { value = all.0; upper_bound = all.1.0; buffer_after = all.1.1 }
 
 -- ---- not below 0
-nonnegative : (c : goal.Else-z-lt0) → T (non_neg c.args.z)
-nonnegative c =
-    let s = c in
-    yes_non_neg (test_not_below s.args.z (pos 0) (simp (to_z-of_z, s.ranges.z) at c.if-z-lt0.false))
+nonnegative : (c : goal.After-put_decimal-arg-1) → T (non_neg c.args.z)
+nonnegative c = yes_non_neg (test_not_below c.args.z (pos 0) (simp (to_z-of_z, c.ranges.z) at c.if-z-lt0.false))
 
 pub overflow_cast-z : goal.overflow_cast-z
 overflow_cast-z c =
-    let s = c in
-    simp (to_z-of_z, s.ranges.z) (nonnegative c.before, record { fits = omega (arith, nat_abs-le s.args.z s.ranges.z.sfits) })
+    simp (to_z-of_z, c.ranges.z) (nonnegative c, record { fits = omega (arith, nat_abs-le c.args.z c.ranges.z.sfits) })
 
 pub returns : goal.returns
 returns c =
-    let call = c in
-    let natural = call in
-    let s = natural in
-    natural_stored s.args.buffer.now _ s.args.at call.put_decimal.result s.args.z (nonnegative natural)
-    (simp (to_z-of_z, s.ranges.z) at call.put_decimal.ensures.value)
-    call.put_decimal.ensures.upper_bound.0
-    (simp (to_z-of_z, s.ranges.z) at call.put_decimal.ensures.upper_bound.1)
+    let s = c.args in
+    let call = c.put_decimal in
+    let all =
+    natural_stored s.buffer.now _ s.at call.result s.z (nonnegative c.before.before.before.before)
+    (simp (to_z-of_z, c.ranges.z) at call.ensures.value)
+    call.ensures.upper_bound
+    (simp (to_z-of_z, c.ranges.z) at call.ensures.buffer_after) in
+    record { value = all.0; upper_bound = all.1.0; buffer_after = all.1.1 }

@@ -1,10 +1,10 @@
 -- `text::decimal::put_word` meets its contract: after k turns the first k bytes are stored. Assumes nothing.
 use mathlib.Core.Path.{refl, sym, ap, ◌∙◌}
 use mathlib.Core.List.{List}
-use Prim.Native.Nat.{ℕ, ◌+◌, ◌-◌}
+use Prim.Native.Nat.{ℕ, ◌+◌}
 use native.Mathlib.Numerals.{add-one}
 use native.Mathlib.Omega.{arith}
-use lib.ListN.{length, length-set, take}
+use lib.ListN.{length-set, take}
 use lib.Seq.{sets, take-suc, take_all, length-take-le}
 use Rattle.arithmetic.proofs.SetsLaws.{sets_next}
 use borrow.Author.Rules.{rules}

@@ -5,4 +5,4 @@ use Rattle.text.proofs.StoredLaws.{stored_byte}
 use Rattle.text.proofs.fields.put_number.Goals as goal
 
 pub returns : goal.returns
-returns c = record { stored = stored_byte (decimal_of c.args.n) c.args.after c.put_decimal-end.ensures.value c.put_decimal-end.ensures.upper_bound.1; bounded = omega (arith, c.put_decimal-end.ensures.upper_bound.0) }
+returns c = record { stored = stored_byte (decimal_of c.args.n) c.args.after c.put_decimal-end.ensures.value c.put_decimal-end.ensures.buffer_after; bounded = omega (arith, c.put_decimal-end.ensures.upper_bound) }
