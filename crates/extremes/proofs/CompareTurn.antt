@@ -1,7 +1,7 @@
 -- The laws of a turn of the loop that compares gates, for one list, over the choice. Assumes nothing.
 use mathlib.Core.Path.{◌≡◌, refl, sym, ap, ◌∙◌}
 use mathlib.Core.Bool.{Bool, true, false, ◌&&◌}
-use mathlib.Core.List.{List}
+use mathlib.Core.List.{List, []}
 use Prim.Native.Nat.{ℕ, ◌+◌, ◌<◌, ◌≤◌}
 use native.Mathlib.Nat.{le_antisymm}
 use native.Mathlib.Numerals.{add-one}
@@ -17,7 +17,7 @@ use Rattle.extremes.specs.Extremes.{chosen_over, chosen}
 
 module _ (ledger values : List ℕ) (choice : ℕ → ℕ → ℕ) where
   -- a gate that does not contribute to the cell changes nothing there
-  passed_over : (k held cell : ℕ) → contributes ledger values cell k ≡ false → chosen_over ledger values choice (k + 1) held cell ≡ chosen_over ledger values choice k held cell
+  passed_over : (k held cell : ℕ) → contributes ledger values [] cell k ≡ false → chosen_over ledger values choice (k + 1) held cell ≡ chosen_over ledger values choice k held cell
   unfolding chosen_over
   passed_over k held cell e = rw (add-one, e)
 

@@ -2,7 +2,7 @@
 -- them. Assumes nothing.
 use mathlib.Core.Path.{◌≡◌, refl, sym, ap, ◌∙◌}
 use mathlib.Core.Bool.{Bool, true, false, cond}
-use mathlib.Core.List.{List}
+use mathlib.Core.List.{List, []}
 use Prim.Native.Nat.{ℕ, zero, suc, ◌<◌, ◌≤◌, zero-le}
 use native.Mathlib.Nat.{le_refl, le_trans, not-suc-le-zero}
 use native.Mathlib.Omega.{arith}
@@ -61,23 +61,23 @@ greater_one a b = go (leb a b)
 module _ (ledger values : List ℕ) (cell : ℕ) where
   -- no gate yet, or the value of one of them
   data FoundOver (start n x : ℕ) : Type 0 where
-    found_none : ((k : ℕ) → k < n → contributes ledger values cell k ≡ false) → x ≡ start → FoundOver start n x
+    found_none : ((k : ℕ) → k < n → contributes ledger values [] cell k ≡ false) → x ≡ start → FoundOver start n x
     found_one : ValueOfGate ledger values cell n x → FoundOver start n x
 
   one_gate_more : {n x : ℕ} → ValueOfGate ledger values cell n x → ValueOfGate ledger values cell (suc n) x
   one_gate_more found = record { gate = found.gate; is_gate = omega (arith, found.is_gate); is_in_cell = found.is_in_cell; is_value = found.is_value }
 
-  this_gate : {n x : ℕ} → contributes ledger values cell n ≡ true → x ≡ echo_of (get_or values n 0) → ValueOfGate ledger values cell (suc n) x
+  this_gate : {n x : ℕ} → contributes ledger values [] cell n ≡ true → x ≡ echo_of (get_or values n 0) → ValueOfGate ledger values cell (suc n) x
   this_gate {n} e is = record { gate = n; is_gate = omega arith; is_in_cell = e; is_value = is }
 
-  module _ (choice : ℕ → ℕ → ℕ) (start : ℕ) (one : (a b : ℕ) → OneOf (choice a b) a b) (first : (k : ℕ) → contributes ledger values cell k ≡ true → choice start (echo_of (get_or values k 0)) ≡ echo_of (get_or values k 0)) where
-    chosen_by : (n before : ℕ) → FoundOver start n before → contributes ledger values cell n ≡ true → OneOf (choice before (echo_of (get_or values n 0))) before (echo_of (get_or values n 0)) → FoundOver start (suc n) (choice before (echo_of (get_or values n 0)))
+  module _ (choice : ℕ → ℕ → ℕ) (start : ℕ) (one : (a b : ℕ) → OneOf (choice a b) a b) (first : (k : ℕ) → contributes ledger values [] cell k ≡ true → choice start (echo_of (get_or values k 0)) ≡ echo_of (get_or values k 0)) where
+    chosen_by : (n before : ℕ) → FoundOver start n before → contributes ledger values [] cell n ≡ true → OneOf (choice before (echo_of (get_or values n 0))) before (echo_of (get_or values n 0)) → FoundOver start (suc n) (choice before (echo_of (get_or values n 0)))
     chosen_by n before (found_none none e) here which = found_one (this_gate here (ap (λ (x : ℕ). choice x (echo_of (get_or values n 0))) e ∙ first n here))
     chosen_by n before (found_one found) here (the_first e) = found_one (rw e (one_gate_more found))
     chosen_by n before (found_one found) here (the_second e) = found_one (this_gate here e)
 
-    kept : (n before : ℕ) → FoundOver start n before → contributes ledger values cell n ≡ false → FoundOver start (suc n) before
-    kept n before (found_none none e) here = found_none (λ k h. before_or_after k n (none k) (λ l. ap (contributes ledger values cell) (same k l h) ∙ here)) e
+    kept : (n before : ℕ) → FoundOver start n before → contributes ledger values [] cell n ≡ false → FoundOver start (suc n) before
+    kept n before (found_none none e) here = found_none (λ k h. before_or_after k n (none k) (λ l. ap (contributes ledger values [] cell) (same k l h) ∙ here)) e
       where
         same : (k : ℕ) → n ≤ k → k < suc n → k ≡ n
         same k l h = omega arith
@@ -86,9 +86,9 @@ module _ (ledger values : List ℕ) (cell : ℕ) where
     found_over : (n : ℕ) → FoundOver start n (chosen_over ledger values choice n start cell)
     unfolding chosen_over
     found_over zero = found_none (λ k h. absurd (not-suc-le-zero h)) refl
-    found_over (suc n) = go (contributes ledger values cell n) refl (chosen_over ledger values choice n start cell) (found_over n)
+    found_over (suc n) = go (contributes ledger values [] cell n) refl (chosen_over ledger values choice n start cell) (found_over n)
       where
-        go : (t : Bool) → contributes ledger values cell n ≡ t → (before : ℕ) → FoundOver start n before → FoundOver start (suc n) (cond t (choice before (echo_of (get_or values n 0))) before)
+        go : (t : Bool) → contributes ledger values [] cell n ≡ t → (before : ℕ) → FoundOver start n before → FoundOver start (suc n) (cond t (choice before (echo_of (get_or values n 0))) before)
         go true e before found = chosen_by n before found e (one before (echo_of (get_or values n 0)))
         go false e before found = kept n before found e
 
@@ -98,26 +98,26 @@ module _ (ledger values : List ℕ) (cell : ℕ) where
   last_or_before : {P : Type 0} (n k : ℕ) → k < suc n → (k < n → P) → (k ≡ n → P) → P
   last_or_before n k h f g = before_or_after k n f (λ l. g (omega arith))
 
-  not_both : {n k : ℕ} → contributes ledger values cell k ≡ true → contributes ledger values cell n ≡ false → k ≡ n → ⊥
-  not_both {n} {k} e f same = let wrong : true ≡ false = sym e ∙ ap (contributes ledger values cell) same ∙ f in let z : ◌≡◌ {A = ℕ} 0 1 = cc in omega arith
+  not_both : {n k : ℕ} → contributes ledger values [] cell k ≡ true → contributes ledger values [] cell n ≡ false → k ≡ n → ⊥
+  not_both {n} {k} e f same = let wrong : true ≡ false = sym e ∙ ap (contributes ledger values [] cell) same ∙ f in let z : ◌≡◌ {A = ℕ} 0 1 = cc in omega arith
 
-  least_below : (n start k : ℕ) → k < n → contributes ledger values cell k ≡ true → chosen_over ledger values lesser n start cell ≤ echo_of (get_or values k 0)
+  least_below : (n start k : ℕ) → k < n → contributes ledger values [] cell k ≡ true → chosen_over ledger values lesser n start cell ≤ echo_of (get_or values k 0)
   unfolding chosen_over
   least_below zero start k h e = absurd (not-suc-le-zero h)
-  least_below (suc n) start k h e = go (contributes ledger values cell n) refl (chosen_over ledger values lesser n start cell) (λ l. least_below n start k l e)
+  least_below (suc n) start k h e = go (contributes ledger values [] cell n) refl (chosen_over ledger values lesser n start cell) (λ l. least_below n start k l e)
     where
-      go : (t : Bool) → contributes ledger values cell n ≡ t → (before : ℕ) → (k < n → before ≤ echo_of (get_or values k 0)) → cond t (lesser before (echo_of (get_or values n 0))) before ≤ echo_of (get_or values k 0)
+      go : (t : Bool) → contributes ledger values [] cell n ≡ t → (before : ℕ) → (k < n → before ≤ echo_of (get_or values k 0)) → cond t (lesser before (echo_of (get_or values n 0))) before ≤ echo_of (get_or values k 0)
       go true here before below =
           let most = lesser_most before (echo_of (get_or values n 0)) in
           last_or_before n k h (λ l. le_trans most.0 (below l)) (λ same. rw same most.1)
       go false here before below = last_or_before n k h below (λ same. absurd (not_both e here same))
 
-  greatest_above : (n start k : ℕ) → k < n → contributes ledger values cell k ≡ true → echo_of (get_or values k 0) ≤ chosen_over ledger values greater n start cell
+  greatest_above : (n start k : ℕ) → k < n → contributes ledger values [] cell k ≡ true → echo_of (get_or values k 0) ≤ chosen_over ledger values greater n start cell
   unfolding chosen_over
   greatest_above zero start k h e = absurd (not-suc-le-zero h)
-  greatest_above (suc n) start k h e = go (contributes ledger values cell n) refl (chosen_over ledger values greater n start cell) (λ l. greatest_above n start k l e)
+  greatest_above (suc n) start k h e = go (contributes ledger values [] cell n) refl (chosen_over ledger values greater n start cell) (λ l. greatest_above n start k l e)
     where
-      go : (t : Bool) → contributes ledger values cell n ≡ t → (before : ℕ) → (k < n → echo_of (get_or values k 0) ≤ before) → echo_of (get_or values k 0) ≤ cond t (greater before (echo_of (get_or values n 0))) before
+      go : (t : Bool) → contributes ledger values [] cell n ≡ t → (before : ℕ) → (k < n → echo_of (get_or values k 0) ≤ before) → echo_of (get_or values k 0) ≤ cond t (greater before (echo_of (get_or values n 0))) before
       go true here before above =
           let least = greater_least before (echo_of (get_or values n 0)) in
           last_or_before n k h (λ l. le_trans (above l) least.0) (λ same. rw same least.1)
@@ -126,21 +126,26 @@ module _ (ledger values : List ℕ) (cell : ℕ) where
   -- ---- all gates, with values of 16 bits
 
   module _ (qualities : List ℕ) (small : (k : ℕ) → get_or values k 0 ≤ 65535) where
-    its_measured : (k : ℕ) → contributes ledger values cell k ≡ true → is_measured (get_or values k 0) ≡ true
+    its_measured : (k : ℕ) → contributes ledger values [] cell k ≡ true → is_measured (get_or values k 0) ≡ true
     unfolding contributes
     its_measured k e = (and_true (eqb (get_or ledger k 0) cell) (is_measured (get_or values k 0)) e).1
 
-    first_least : (k : ℕ) → contributes ledger values cell k ≡ true → lesser empty_least (echo_of (get_or values k 0)) ≡ echo_of (get_or values k 0)
+    first_least : (k : ℕ) → contributes ledger values [] cell k ≡ true → lesser empty_least (echo_of (get_or values k 0)) ≡ echo_of (get_or values k 0)
     unfolding lesser
     first_least k e = rw (lt-leb 65535 (echo_of (get_or values k 0)) (omega (arith, echo_most (get_or values k 0) (small k) (its_measured k e))))
 
-    first_greatest : (k : ℕ) → contributes ledger values cell k ≡ true → greater empty_greatest (echo_of (get_or values k 0)) ≡ echo_of (get_or values k 0)
+    first_greatest : (k : ℕ) → contributes ledger values [] cell k ≡ true → greater empty_greatest (echo_of (get_or values k 0)) ≡ echo_of (get_or values k 0)
     unfolding greater
     first_greatest k e = rw (le-leb 0 (echo_of (get_or values k 0)) zero-le)
 
-    none_counted : ((k : ℕ) → k < length ledger → contributes ledger values cell k ≡ false) → count_of ledger values qualities cell ≡ 0
+    -- quality plays no part in whether a gate contributes
+    with_qualities : (k : ℕ) → contributes ledger values qualities cell k ≡ contributes ledger values [] cell k
+    unfolding contributes
+    with_qualities k = refl
+
+    none_counted : ((k : ℕ) → k < length ledger → contributes ledger values [] cell k ≡ false) → count_of ledger values qualities cell ≡ 0
     unfolding count_of sum_over
-    none_counted none = sum_ext _ _ (length ledger) (λ k h. rw (none k h)) ∙ sum_zero (length ledger)
+    none_counted none = sum_ext _ _ (length ledger) (λ k h. rw (with_qualities k ∙ none k h)) ∙ sum_zero (length ledger)
 
     both : FoundOver empty_least (length ledger) (least_of ledger values cell) → FoundOver empty_greatest (length ledger) (greatest_of ledger values cell) → OfGates ledger values qualities cell (least_of ledger values cell) (greatest_of ledger values cell)
     both (found_none none l) (found_none other g) = of_none (record { no_count = none_counted none; no_least = l; no_greatest = g })

@@ -1,6 +1,6 @@
 -- Document 02, T-06: the least and the greatest value of a cell, over the measured gates whose ledger entry names it, no echo counting as 0.
 -- Quality plays no part. Assumes nothing.
-use Rattle.std.specs.Prelude.{cond, List, ℕ, zero, suc, leb, length, get_or, replicate}
+use Rattle.std.specs.Prelude.{cond, List, [], ℕ, zero, suc, leb, length, get_or, replicate}
 use Rattle.arithmetic.specs.Places.{table}
 use Rattle.tally.specs.Gates.{echo_of}
 use Rattle.tally.specs.Tally.{contributes}
@@ -24,11 +24,12 @@ abbrev pub empty_greatest : ℕ
 empty_greatest = 0
 
 module _ (ledger values : List ℕ) where
-  -- what a number of the cell becomes by the first n gates: with each that contributes, the choice between it and the gate's value
+  -- what a number of the cell becomes by the first n gates: with each that contributes, the choice between it and the gate's value.
+  -- Quality plays no part in whether a gate contributes, so that no list of qualities is given.
   unfoldable pub chosen_over : (ℕ → ℕ → ℕ) → ℕ → ℕ → ℕ → ℕ
   chosen_over choice zero held cell = held
   chosen_over choice (suc k) held cell =
-      cond (contributes ledger values cell k) (choice (chosen_over choice k held cell) (echo_of (get_or values k 0))) (chosen_over choice k held cell)
+      cond (contributes ledger values [] cell k) (choice (chosen_over choice k held cell) (echo_of (get_or values k 0))) (chosen_over choice k held cell)
 
   unfoldable pub least_of : ℕ → ℕ
   least_of cell = chosen_over lesser (length ledger) empty_least cell

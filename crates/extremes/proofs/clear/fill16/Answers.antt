@@ -1,8 +1,7 @@
 -- `extremes::clear::fill16` meets its contract. Assumes nothing.
-use Prim.Native.Nat.{◌-◌}
 use native.Mathlib.Omega.{arith}
 use borrow.Author.Fill.{fill_more}
-use lib.ListN.{length, length-set}
+use lib.ListN.{length-set}
 use Rattle.arithmetic.proofs.Places.{fill_done}
 use borrow.Author.Rules.{rules}
 use Rattle.extremes.proofs.clear.fill16.Goals as goal

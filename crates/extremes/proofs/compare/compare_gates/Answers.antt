@@ -1,6 +1,5 @@
 -- `extremes::compare::compare_gates` meets its contract. The loop's invariant: each of the two lists holds its choice over the first k gates, from
 -- what it held. Assumes nothing.
-use Prim.Native.Nat.{◌-◌}
 use native.Mathlib.Omega.{arith}
 use lib.ListN.{get_or}
 use Rattle.tally.proofs.TallyWidth.{echo_within}
