@@ -15,17 +15,20 @@ loop-k-init c = (search rules, search rules, refl)
 
 pub loop-k-preserved : goal.loop-k-preserved
 loop-k-preserved c =
-    let loop = c in
-    let args = loop.args in
+    let args = c.args in
     let word = args.word.now in
-    let k = loop.loop-k.k in (
+    let loop = c.loop-k in
+    let k = loop.k in (
       search rules,
-      length-set loop.loop-k.buffer (args.at + k) _ ∙ loop.loop-k.invariant.1,
-      sets_next args.buffer.now _ args.at (args.at + k) (take k word) _ (ap (λ (n : ℕ). args.at + n) (sym (length-take-le k word loop.loop-k.invariant.0))) loop.loop-k.invariant.2
+      length-set loop.buffer (args.at + k) _ ∙ loop.invariant.1,
+      sets_next args.buffer.now _ args.at (args.at + k) (take k word) _ (ap (λ (n : ℕ). args.at + n) (sym (length-take-le k word loop.invariant.0))) loop.invariant.2
           ∙ rw (add-one k, take-suc word k 0 c.loop-k-test.true),
     )
 
 pub returns : goal.returns
 returns c =
     let args = c.args in
-    record { value = omega arith; buffer_after = c.loop-k.invariant.2 ∙ ap (λ (l : List ℕ). sets args.buffer.now args.at l) (take_all c.loop-k.k args.word.now (omega arith)) }
+    record {
+      value = omega arith;
+      buffer_after = c.loop-k.invariant.2 ∙ ap (λ (l : List ℕ). sets args.buffer.now args.at l) (take_all c.loop-k.k args.word.now (omega arith));
+    }

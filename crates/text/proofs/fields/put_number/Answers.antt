@@ -5,4 +5,9 @@ use Rattle.text.proofs.StoredLaws.{stored_byte}
 use Rattle.text.proofs.fields.put_number.Goals as goal
 
 pub returns : goal.returns
-returns c = record { stored = stored_byte (decimal_of c.args.n) c.args.after c.put_decimal-end.ensures.value c.put_decimal-end.ensures.buffer_after; bounded = omega (arith, c.put_decimal-end.ensures.upper_bound) }
+returns c =
+    let put = c.put_decimal-end.ensures in
+    record {
+      stored = stored_byte (decimal_of c.args.n) c.args.after put.value put.buffer_after;
+      bounded = omega (arith, put.upper_bound);
+    }

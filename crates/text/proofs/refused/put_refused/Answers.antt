@@ -6,4 +6,10 @@ use Rattle.text.proofs.refused.put_refused.Goals as goal
 
 pub returns : goal.returns
 unfolding refused_word refused_line
-returns c = record { stored = line_before _ _ _ c.put_text-after_word.ensures (line_last _ c.put_number.ensures.stored); bounded = omega (arith, c.put_number.ensures.bounded, c.put_text-after_word.ensures.the_end) }
+returns c =
+    let word = c.put_text-after_word.ensures in
+    let number = c.put_number.ensures in
+    record {
+      stored = line_before _ _ _ word (line_last _ number.stored);
+      bounded = omega (arith, number.bounded, word.the_end);
+    }
