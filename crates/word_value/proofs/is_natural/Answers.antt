@@ -1,9 +1,12 @@
 -- `word_value::is_natural` meets its contract. Assumes nothing.
 use mathlib.Core.Path.{◌≡◌, refl}
 use mathlib.Core.Bool.{true, false}
+use mathlib.Core.List.{List}
+use Prim.Native.Nat.{ℕ, ◌<◌, ◌≤◌}
 use native.Mathlib.Omega.{arith}
 use borrow.Author.Rules.{rules}
-use lib.ListN.{get_or}
+use lib.ListN.{length, get_or, drop}
+use Rattle.arithmetic.specs.Places.{all_of}
 use Rattle.arithmetic.proofs.Places.{all_step, all_stop, all_end}
 use Rattle.word_value.specs.WordValue.{is_digit, is_natural}
 use Rattle.word_value.proofs.WordLaws.{digit_yes, digit_below, digit_above, natural_is, natural_short, natural_long}
@@ -19,35 +22,22 @@ pub loop-k-init : goal.loop-k-init
 loop-k-init c = (search rules, refl)
 
 -- a byte that is no digit
-stopped : (c : goal.Then-word-k-lt48) → is_digit (get_or c.args.word.now c.loop-k.k 0) ≡ false → false ≡ is_natural c.args.word.now
-stopped c e =
-    let word = c.args.word.now in
-    natural_is word false (omega (arith, c.if-word-lt1.false)) (omega (arith, c.if-word-gt18.false))
-    (all_stop is_digit word c.loop-k.k _ c.loop-k-test.true e c.loop-k.invariant.1)
-
-stopped-2 : (c : goal.Then-word-k-gt57) → is_digit (get_or c.args.word.now c.loop-k.k 0) ≡ false → false ≡ is_natural c.args.word.now
-stopped-2 c e =
-    let word = c.args.word.now in
-    natural_is word false (omega (arith, c.if-word-lt1.false)) (omega (arith, c.if-word-gt18.false))
-    (all_stop is_digit word c.loop-k.k _ c.loop-k-test.true e c.loop-k.invariant.1)
+stopped : (w : List ℕ) (k : ℕ) → 1 ≤ length w → length w ≤ 18 → k < length w → is_digit (get_or w k 0) ≡ false → all_of is_digit w ≡ all_of is_digit (drop k w) → false ≡ is_natural w
+stopped w k least most h e same = natural_is w false least most (all_stop is_digit w k _ h e same)
 
 pub returns-then-word-k-lt48 : goal.returns-then-word-k-lt48
 returns-then-word-k-lt48 c =
-    let turn = c in
-    stopped turn (digit_below (get_or turn.args.word.now turn.loop-k.k 0) (omega (arith, c.if-word-k-lt48.true)))
+    stopped c.args.word.now c.loop-k.k (omega arith) (omega arith) c.loop-k-test.true (digit_below _ c.if-word-k-lt48.true) c.loop-k.invariant.1
 
 pub returns-then-word-k-gt57 : goal.returns-then-word-k-gt57
 returns-then-word-k-gt57 c =
-    let turn = c in
-    stopped-2 turn (digit_above (get_or turn.args.word.now turn.loop-k.k 0) (omega (arith, c.if-word-k-gt57.true)))
+    stopped c.args.word.now c.loop-k.k (omega arith) (omega arith) c.loop-k-test.true (digit_above _ c.if-word-k-gt57.true) c.loop-k.invariant.1
 
 pub loop-k-preserved : goal.loop-k-preserved
 loop-k-preserved c =
-    let turn = c in
-    (search rules, all_step is_digit _ turn.loop-k.k _ turn.loop-k-test.true (digit_yes _ c.if-word-k-lt48.false c.if-word-k-gt57.false) turn.loop-k.invariant.1)
+    (search rules, all_step is_digit _ c.loop-k.k _ c.loop-k-test.true (digit_yes _ c.if-word-k-lt48.false c.if-word-k-gt57.false) c.loop-k.invariant.1)
 
 pub returns : goal.returns
 returns c =
-    let word = c.args.word.now in
-    natural_is word true (omega (arith, c.if-word-lt1.false)) (omega (arith, c.if-word-gt18.false))
-    (all_end is_digit word c.loop-k.k _ c.loop-k-test.false c.loop-k.invariant.1)
+    natural_is c.args.word.now true (omega arith) (omega arith)
+    (all_end is_digit c.args.word.now c.loop-k.k _ c.loop-k-test.false c.loop-k.invariant.1)
