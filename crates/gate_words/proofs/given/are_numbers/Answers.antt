@@ -10,10 +10,14 @@ loop-k-init c = (search rules, refl)
 
 pub returns-then-not-is_number : goal.returns-then-not-is_number
 unfolding are_numbers
-returns-then-not-is_number c = tests_stop (is_number_at c.args.words.now) _ _ _ _ c.loop-k-test.true (sym c.is_number.ensures ∙ c.if-not-is_number.true) c.loop-k.invariant.1
+returns-then-not-is_number c =
+    tests_stop (is_number_at c.args.words.now) _ _ _ _ c.loop-k-test.true (sym c.is_number.ensures ∙ c.if-not-is_number.true) c.loop-k.invariant.1
 
 pub loop-k-preserved : goal.loop-k-preserved
-loop-k-preserved c = (search rules, tests_step (is_number_at c.args.words.now) _ _ _ _ c.loop-k-test.true (sym c.is_number.ensures ∙ c.if-not-is_number.false) c.loop-k.invariant.1)
+loop-k-preserved c = (
+  search rules,
+  tests_step (is_number_at c.args.words.now) _ _ _ _ c.loop-k-test.true (sym c.is_number.ensures ∙ c.if-not-is_number.false) c.loop-k.invariant.1,
+)
 
 pub returns : goal.returns
 unfolding are_numbers

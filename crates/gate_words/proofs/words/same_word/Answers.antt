@@ -15,7 +15,10 @@ pub returns-then-a-k : goal.returns-then-a-k
 returns-then-a-k c = sym (c.loop-k.invariant.1 ∙ other_byte c.args.a.now c.args.b.now c.loop-k.k (omega arith) (omega arith) c.if-a-k.true)
 
 pub loop-k-preserved : goal.loop-k-preserved
-loop-k-preserved c = (omega arith, c.loop-k.invariant.1 ∙ same_so_far c.args.a.now c.args.b.now c.loop-k.k (omega arith) (omega arith) c.if-a-k.false)
+loop-k-preserved c = (
+  omega arith,
+  c.loop-k.invariant.1 ∙ same_so_far c.args.a.now c.args.b.now c.loop-k.k (omega arith) (omega arith) c.if-a-k.false,
+)
 
 pub returns : goal.returns
 returns c = sym (c.loop-k.invariant.1 ∙ same_to_the_end c.args.a.now c.args.b.now c.loop-k.k (omega arith) (omega arith))

@@ -9,10 +9,19 @@ pub loop-at-init : goal.loop-at-init
 loop-at-init c = (search rules, refl)
 
 pub returns-then-words-at-eq0 : goal.returns-then-words-at-eq0
-returns-then-words-at-eq0 c = record { value = omega (arith, c.loop-at.invariant.1, end_found c.args.words.now c.loop-at.at c.loop-at-test.true c.if-words-at-eq0.true); bounded = c.loop-at.invariant.0 }
+returns-then-words-at-eq0 c = record {
+  value = omega (arith, c.loop-at.invariant.1, end_found c.args.words.now c.loop-at.at c.loop-at-test.true c.if-words-at-eq0.true);
+  bounded = c.loop-at.invariant.0;
+}
 
 pub loop-at-preserved : goal.loop-at-preserved
-loop-at-preserved c = (omega arith, omega (arith, c.loop-at.invariant.1, end_later c.args.words.now c.loop-at.at c.loop-at-test.true c.if-words-at-eq0.false))
+loop-at-preserved c = (
+  omega arith,
+  omega (arith, c.loop-at.invariant.1, end_later c.args.words.now c.loop-at.at c.loop-at-test.true c.if-words-at-eq0.false),
+)
 
 pub returns : goal.returns
-returns c = record { value = omega (arith, c.loop-at.invariant.1, end_reached c.args.words.now c.loop-at.at c.loop-at-test.false); bounded = c.loop-at.invariant.0 }
+returns c = record {
+  value = omega (arith, c.loop-at.invariant.1, end_reached c.args.words.now c.loop-at.at c.loop-at-test.false);
+  bounded = c.loop-at.invariant.0;
+}

@@ -11,7 +11,11 @@ unfolding word_start
 loop-k-init c = (search rules, refl, search rules)
 
 pub loop-k-preserved : goal.loop-k-preserved
-loop-k-preserved c = (omega arith, start_next c.args.words.now c.loop-k.k c.loop-k.invariant.1 c.word_end-start.ensures.value, omega (arith, c.word_end-start.ensures.bounded))
+loop-k-preserved c = (
+  omega arith,
+  start_next c.args.words.now c.loop-k.k c.loop-k.invariant.1 c.word_end-start.ensures.value,
+  omega (arith, c.word_end-start.ensures.bounded),
+)
 
 pub returns : goal.returns
 returns c = c.loop-k.invariant.1 ∙ ap (word_start c.args.words.now) (omega arith)
