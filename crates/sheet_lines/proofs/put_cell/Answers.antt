@@ -11,4 +11,8 @@ returns c =
     let b = c.put_number-b.ensures in
     let c' = c.put_number-c.ensures in
     let d = c.put_number-d.ensures in
-    let e = c.put_number.ensures in record { upper_bound = omega (arith, a.bounded, b.bounded, c'.bounded, d.bounded, e.bounded); stored = line_before _ _ _ a.stored (line_before _ _ _ b.stored (line_before _ _ _ c'.stored (line_before _ _ _ d.stored (line_last _ e.stored)))) }
+    let e = c.put_number.ensures in
+    record {
+      upper_bound = omega (arith, a.bounded, b.bounded, c'.bounded, d.bounded, e.bounded);
+      stored = line_before _ _ _ a.stored (line_before _ _ _ b.stored (line_before _ _ _ c'.stored (line_before _ _ _ d.stored (line_last _ e.stored))));
+    }

@@ -28,4 +28,7 @@ loop-cell-preserved c =
 pub returns : goal.returns
 returns c =
     let loop = c.loop-cell in
-    record { upper_bound = omega (arith, loop.invariant, c.requires); stored = rw (le_antisymm c.loop-cell-test.false loop.invariant.0) loop.invariant.2 }
+    record {
+      upper_bound = omega (arith, loop.invariant, c.requires);
+      stored = rw (le_antisymm c.loop-cell-test.false loop.invariant.0) loop.invariant.2;
+    }

@@ -8,4 +8,7 @@ pub returns : goal.returns
 unfolding sheet_lines
 returns c =
     let cells = c.put_cells.ensures in
-    record { upper_bound = cells.upper_bound; stored = stored_next (stored_same (ap (top_lines _ _ _) c.total-placed.ensures) c.put_top-at.ensures.stored) cells.stored }
+    record {
+      upper_bound = cells.upper_bound;
+      stored = stored_next (stored_same (ap (top_lines _ _ _) c.total-placed.ensures) c.put_top-at.ensures.stored) cells.stored;
+    }

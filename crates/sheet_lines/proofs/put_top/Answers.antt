@@ -13,4 +13,9 @@ returns c =
     let d = c.put_word-d.ensures in
     let e = c.put_number-e.ensures in
     let f = c.put_word-f.ensures in
-    let g = c.put_number.ensures in record { upper_bound = omega (arith, a.value, b.bounded, c'.bounded, d.value, e.bounded, f.value, g.bounded); stored = stored_next (line_before grid_word _ _ (stored a.value a.buffer_after) (line_before _ _ _ b.stored (line_last _ c'.stored))) (line_before gates_word _ _ (stored d.value d.buffer_after) (line_before _ _ _ e.stored (line_before placed_word _ _ (stored f.value f.buffer_after) (line_last _ g.stored)))) }
+    let g = c.put_number.ensures in
+    let first = line_before grid_word _ _ (stored a.value a.buffer_after) (line_before _ _ _ b.stored (line_last _ c'.stored)) in
+    record {
+      upper_bound = omega (arith, a.value, b.bounded, c'.bounded, d.value, e.bounded, f.value, g.bounded);
+      stored = stored_next first (line_before gates_word _ _ (stored d.value d.buffer_after) (line_before _ _ _ e.stored (line_before placed_word _ _ (stored f.value f.buffer_after) (line_last _ g.stored))));
+    }
