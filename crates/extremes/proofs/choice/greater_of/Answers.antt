@@ -6,8 +6,8 @@ use Rattle.extremes.proofs.choice.greater_of.Goals as goal
 
 pub returns-then-a-b : goal.returns-then-a-b
 unfolding greater
-returns-then-a-b c = let a = c.args in rw (le-leb a.a a.b (omega arith))
+returns-then-a-b c = rw (le-leb c.args.a c.args.b (omega arith))
 
 pub returns-else-a-b : goal.returns-else-a-b
 unfolding greater
-returns-else-a-b c = let a = c.args in rw (lt-leb a.a a.b (omega arith))
+returns-else-a-b c = rw (lt-leb c.args.a c.args.b (omega arith))

@@ -6,8 +6,8 @@ use Rattle.extremes.proofs.choice.lesser_of.Goals as goal
 
 pub returns-then-a-b : goal.returns-then-a-b
 unfolding lesser
-returns-then-a-b c = let a = c.args in rw (le-leb a.a a.b (omega arith))
+returns-then-a-b c = rw (le-leb c.args.a c.args.b (omega arith))
 
 pub returns-else-a-b : goal.returns-else-a-b
 unfolding lesser
-returns-else-a-b c = let a = c.args in rw (lt-leb a.a a.b (omega arith))
+returns-else-a-b c = rw (lt-leb c.args.a c.args.b (omega arith))
