@@ -2,13 +2,14 @@
 # make library: the proved functions for C, Rust and Python. make compare N=..: N gates against the plain program. make bench: times.
 .PHONY: run test library compare bench
 
+PROGRAMS = target/bin/sheet target/bin/ledger target/bin/gate
 ARCHIVE = target/staticlib/libuldrevin.a
 SHARED = target/libuldrevin.so
 CARGO = cargo --offline --quiet
+CRATES = $(shell find crates crates.txt -type f -not -path '*/out/*')
 N = 10000000
 
-run:
-	rt check sheet ledger gate
+run: $(PROGRAMS)
 	@sh examples/story.sh
 
 test:
@@ -17,12 +18,21 @@ test:
 library: $(SHARED)
 	@:
 
+# A program as rt proves and builds it. rt also runs it, here on no input, and that says nothing.
+$(PROGRAMS): $(CRATES)
+	@mkdir -p target/bin
+	cd crates/$(@F) && rt run < /dev/null > /dev/null
+	@cp crates/$(@F)/out/$(@F) $@
+
 # The proved archive, and the same as a shared library. Each step is quiet, and prints all of its output where it fails.
 QUIETLY = > target/library.log 2>&1 || { cat target/library.log >&2; exit 1; }
 
-$(SHARED): $(shell find crates crates.txt -type f)
-	@mkdir -p target
-	@rt staticlib uldrevin $(QUIETLY)
+$(ARCHIVE): $(CRATES)
+	@mkdir -p target/staticlib
+	@(cd crates/uldrevin && rt lib) $(QUIETLY)
+	@cp crates/uldrevin/out/libuldrevin.a $@
+
+$(SHARED): $(ARCHIVE)
 	@gcc -shared -o $@ -Wl,--whole-archive $(ARCHIVE) -Wl,--no-whole-archive $(QUIETLY)
 
 # N gates, as single gates, scans and records, through the library and the plain program; SEED=.. repeats a run.
@@ -30,7 +40,6 @@ compare: library
 	$(CARGO) run --release -p at_scale -- $(N) $(SEED)
 
 # Times of whole scans, of the same gates one by one, of the plain program, and of numpy with PROJ, from one run; bytes of stack, code, constants.
-bench: library
+bench: library $(PROGRAMS)
 	$(CARGO) run --release -p benchmark
-	@rt check sheet ledger gate $(QUIETLY)
 	@python3 tests/benchmark/sizes.py

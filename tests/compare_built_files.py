@@ -44,7 +44,7 @@ def faults_of(found):
 
 
 def built_files():
-    objects = {*TARGET.glob("staticlib/*"), *TARGET.glob("obj/*.o"), *TARGET.glob("bin/*")}
+    objects = {*TARGET.glob("staticlib/*"), *TARGET.glob("bin/*"), *ROOT.glob("crates/*/out/*.o")}
     for path in [*BUILT, *sorted(objects.difference(BUILT))]:
         name = path.relative_to(ROOT)
         if not path.exists():

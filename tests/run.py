@@ -6,6 +6,7 @@ With a module, as compare_scan, it runs the comparisons of that one alone.
 """
 import importlib
 import re
+import shutil
 import subprocess
 import sys
 import time
@@ -35,11 +36,18 @@ COMPARISONS = (
     "compare_tables",
 )
 WITHOUT_THE_LIBRARY = ("compare_programs",)
+PROGRAMS = ("sheet", "ledger", "gate")
 
-# What the prover says where an edit no longer fits the proof file, and so shows nothing of the contract.
+# What `rt ci` says of each must-fail edit that is refused, with the first fact that no longer holds.
+REFUSED = re.compile(r"rt: must-fail (\S+)\.edit: refused, as it must be(.*)")
+# What it says where an edit no longer fits the proof file, or where the prover gave up, and so shows nothing of the contract.
 UNFIT = re.compile(
-    r"has no `Need-|has no `Tie`|no declaration named|\bParse\b|\bScope\b|is not in scope|no equation of the list has an instance"
+    r"names what the edit took away|only by a limit of the prover|has no field|has no `|is not in scope|was not admitted"
+    r"|no equation of the list has an instance"
 )
+# The line with which `rt ci` ends well, and where edits are bad their number in it.
+WELL = "rt: ok"
+BAD = re.compile(r", [1-9]\d* bad\b")
 
 
 class Count:
@@ -80,21 +88,36 @@ def add(count, title, status, lines):
 
 
 def proofs(count):
-    """`rt ci` proves every listed crate from nothing, tries the must-fail edits and runs the programs."""
-    add(count, "rt ci", *run(["rt", "ci"]))
+    """`rt ci` proves every listed crate, refuses what is not laid out, tries the must-fail edits and runs the programs."""
+    status, lines = run(["rt", "ci"])
+    add(count, "rt ci", status, lines)
+    well = [line for line in lines if line.startswith(WELL)]
+    count.note("rt ci ends well, with no bad edit", [line for line in well if BAD.search(line)] if well else [f"it says no `{WELL}`"])
+    return lines
 
 
-def must_fail_logs(count):
-    """Each refused edit was refused because a fact no longer holds."""
+def must_fail_lines(count, lines):
+    """Each edit was refused because a fact no longer holds."""
+    told = dict(found.groups() for found in map(REFUSED.fullmatch, lines) if found)
     for edit in sorted(ROOT.glob("crates/*/must-fail/*.edit")):
-        crate = edit.parent.parent.name
-        log = ROOT / "target" / "must-fail" / crate / edit.stem / ".log"
-        errors = [line for line in log.read_text().splitlines() if ": error: " in line] if log.exists() else []
-        if not errors:
+        name = f"{edit.parent.parent.name}/{edit.stem}"
+        fact = told.get(name, "")
+        if not fact:
             differences = ["no refusal was found"]
         else:
-            differences = [line for line in errors[:1] if UNFIT.search(line)]
-        count.note(f"the refusal of {crate}/{edit.stem} names a fact", differences)
+            differences = [fact] if UNFIT.search(fact) else []
+        count.note(f"the refusal of {name} names a fact", differences)
+
+
+def take_programs():
+    """The programs that `rt ci` has just proved, built and run are the ones that are compared."""
+    folder = ROOT / "target" / "bin"
+    folder.mkdir(parents=True, exist_ok=True)
+    for name in PROGRAMS:
+        (folder / name).unlink(missing_ok=True)
+        built = ROOT / "crates" / name / "out" / name
+        if built.exists():
+            shutil.copy(built, folder)
 
 
 def compared(module):
@@ -130,10 +153,8 @@ def closed(count):
 
 def main():
     count = Count()
-    status, lines = run(["rt", "fmt", "--check"])
-    count.note("layout of the source", [] if status == 0 else lines)
-    proofs(count)
-    must_fail_logs(count)
+    must_fail_lines(count, proofs(count))
+    take_programs()
     status, lines = run(["make", "--no-print-directory", "library"])
     count.note("the library is built from the proved archive", [] if status == 0 else lines[-SHOWN:])
     comparisons(count, COMPARISONS if status == 0 else WITHOUT_THE_LIBRARY)

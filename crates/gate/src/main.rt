@@ -7,41 +7,47 @@
 
 ghost use Rattle.std.specs.Prelude.{◌≤◌, length};
 
-use libc::STDOUT_FILENO;
+use std::env::{Env, FillError};
 
-fn main() {
-    let mut words = io::buffer();
-    let n = join_arguments(&mut words);
-    print_answer(&words[..n]);
+fn main(rt: HostRuntime) {
+    let mut words = [0u8; 4096];
+    let n = join_arguments(&rt, &mut words);
+    print_answer(&rt, &words[..n]);
 }
 
 // Puts the arguments one behind the other, each with a byte 0, and answers how many bytes that are, or 0 where they do not fit. Argument
 // 0 is the program's own name.
-fn join_arguments(words: &mut [u8]) -> usize
+fn join_arguments(env: &impl Env, words: &mut [u8]) -> usize
     ensures { result ≤ length words.new }
 {
-    let count = os::arg_count();
     let mut end = 0;
-    let mut i = 1;
-    while i < count {
-        end = put_argument(i, words, end);
+    for i in 1..argument_count(env) {
+        end = put_argument(env, i, words, end);
         if end == 0 {
             return 0;
         }
-        i += 1;
     }
     end
 }
 
+// How many arguments there are, the program's own name among them.
+fn argument_count(env: &impl Env) -> usize {
+    for i in 0..usize::MAX {
+        if let Err(FillError::NotPresent) = env.arg(i, &mut []) {
+            return i;
+        }
+    }
+    usize::MAX
+}
+
 // Puts an argument and a byte 0 at a place. The place behind, or 0 where it does not fit.
-fn put_argument(i: usize, words: &mut [u8], at: usize) -> usize
+fn put_argument(env: &impl Env, i: usize, words: &mut [u8], at: usize) -> usize
     requires { at ≤ length words.old }
     ensures { result ≤ length words.new }
 {
-    let n = os::arg(i, &mut words[at..]);
-    if os::errno() != 0 {
+    let Ok(n) = env.arg(i, &mut words[at..]) else {
         return 0;
-    }
+    };
     let end = at + n;
     if words.len() <= end {
         return 0;
@@ -50,8 +56,9 @@ fn put_argument(i: usize, words: &mut [u8], at: usize) -> usize
     end + 1
 }
 
-fn print_answer(words: &[u8]) {
+fn print_answer(to: &impl Print, words: &[u8]) {
     let mut line = [0u8; 256];
     let n = gate_text::gate_text(words, &mut line);
-    io::write_all(STDOUT_FILENO, &line[..n]);
+    // Where nobody reads what it prints, the program ends in silence.
+    let _ = to.write_all(&line[..n]);
 }
