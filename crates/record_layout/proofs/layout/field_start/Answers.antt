@@ -1,6 +1,5 @@
 -- `record_layout::layout::field_start` meets its contract. Assumes nothing.
 use mathlib.Core.Path.{refl, sym, ap, ◌∙◌}
-use Prim.Native.Nat.{◌-◌}
 use native.Mathlib.Nat.{le_antisymm}
 use native.Mathlib.Omega.{arith}
 use borrow.Author.Rules.{rules}
@@ -24,8 +23,8 @@ loop-j-preserved c =
     let known = c.loop-j.invariant in
     let length = c.content_length.ensures in (
       search rules,
-      sym (next_start _ _ ∙ sym (omega (arith, known.1, length.0))),
-      omega (arith, known.2, length.1),
+      sym (next_start _ _ ∙ sym (omega (arith, known.1, length.value))),
+      omega (arith, known.2, length.bounded),
     )
 
 pub returns : goal.returns

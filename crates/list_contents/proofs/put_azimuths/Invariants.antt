@@ -1,0 +1,13 @@
+use mathlib.Core.Path.{◌≡◌}
+use Prim.Native.Nat.{◌+◌, ◌-◌, ◌≤◌}
+use lib.ListN.{length, take}
+use lib.Seq.{sets}
+use Rattle.big_endian.specs.BigEndian.{all_bytes_of}
+use Rattle.list_contents.proofs.put_azimuths.Given as goal
+
+abbrev pub invariant-loop-k : goal.invariant-loop-k
+invariant-loop-k l =
+    (l.k ≤ length l.azimuths) × (length l.buffer ≡ length l.initial.buffer) × (l.buffer ≡ sets l.initial.buffer (l.at + 3) (all_bytes_of 4 (take l.k l.azimuths)))
+
+abbrev pub decreases-loop-k : goal.decreases-loop-k
+decreases-loop-k l = length l.azimuths - l.k

@@ -1,0 +1,12 @@
+use Prim.Native.Nat.{◌+◌, ◌-◌, ◌*◌, ◌≤◌}
+use lib.ListN.{length}
+use Rattle.arithmetic.specs.Places.{Written}
+use Rattle.big_endian.specs.BigEndian.{number_at}
+use Rattle.record_reader.proofs.reader.read_values.Given as goal
+
+abbrev pub invariant-loop-k : goal.invariant-loop-k
+invariant-loop-k l =
+    (l.k ≤ length l.initial.values) × Written (λ j. number_at 2 l.bytes (l.start + 2 * j)) 0 l.k l.initial.values l.values
+
+abbrev pub decreases-loop-k : goal.decreases-loop-k
+decreases-loop-k l = length l.initial.values - l.k
