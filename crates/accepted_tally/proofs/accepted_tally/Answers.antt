@@ -1,12 +1,9 @@
 -- `accepted_tally::accepted_tally` meets its contract, step by step: survey, ledger and marks, cleared sums, gates added. Assumes nothing.
-use mathlib.Core.Path.{◌≡◌, ◌∙◌}
+use mathlib.Core.Path.{◌∙◌}
 use Prim.Native.Nat.{ℕ, ◌≤◌}
 use native.Mathlib.Omega.{arith}
 use lib.ListN.{get_or}
-use Rattle.scan.specs.LentLists.{Lists, lists_held}
-use Rattle.scan.specs.Scan.{Scan, scan_held}
-use Rattle.accepted_tally.specs.TalliedLists.{tallied_lists}
-use Rattle.scan.proofs.AcceptedScan.{AcceptedScan, accepted_scan}
+use Rattle.scan.proofs.AcceptedScan.{accepted_scan}
 use Rattle.accepted_tally.proofs.AcceptedTally.{is_surveyed, rays_span, ledger_is, marks_are, addable, sums_are}
 use Rattle.accepted_tally.proofs.accepted_tally.Goals as goal
 
