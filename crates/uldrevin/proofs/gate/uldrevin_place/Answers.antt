@@ -3,6 +3,4 @@ use mir.Facts.{to_z-of_z}
 use Rattle.uldrevin.proofs.gate.uldrevin_place.Goals as goal
 
 pub returns : goal.returns
-returns c =
-    let s = c in
-    simp (to_z-of_z, s.ranges.azimuth, s.ranges.range) at c.answer_place.ensures
+returns c = simp (to_z-of_z, c.ranges.azimuth, c.ranges.range) at c.answer_place.ensures
