@@ -113,6 +113,18 @@ module _ {bytes : List ℕ} (scan : Scan) (lists : Lists) (s : Sized bytes scan.
       let known = rw (is, s.is_head) at p in
       (published_scan (scan_in bytes) good (rw e at small) (head_in bytes).weighting cells answer (room.means_length ∙ ap cells_of s.is_head) (room.cell_qualities_length ∙ ap cells_of s.is_head) known).the_cells
 
+-- what is known once the record is read, tallied and published
+pub record CellsDone (bytes : List ℕ) (sums : Sums) (cells : Cells) : Type 0 where
+  pub the_sums : sums ≡ (tallied_lists (scan_in bytes)).sums
+  pub the_cells : cells ≡ scan_cells (head_in bytes).weighting (scan_in bytes)
+
+module _ {bytes : List ℕ} (scan : Scan) (lists : Lists) {cells : Both Cells Cells} (s : Sized bytes scan.head) (exact : lists_exact scan lists ≡ true) (room : CellRoom scan.head cells.entry) {head_answer : ReadScan} {read : RecordLists} {tally_answer : Outcome} {after : Lists} {publish_answer : Outcome} where
+  pub cells_done : ((k : ℕ) → get_or read.values k 0 ≤ 65535) → Reads bytes (record { entry = to_fill scan lists s exact; exit = read }) head_answer → Tallies (record { head = scan.head; azimuths = read.azimuths; values = read.values; qualities = read.qualities }) (record { entry = lists; exit = after }) tally_answer → Publishes scan.head.weighting after.sums cells publish_answer → CellsDone bytes after.sums cells.exit
+  cells_done small r t p =
+      let is = scan_read_lem scan lists s exact r in
+      let sums = ap (λ (l : Lists). l.sums) (tallied scan lists s exact is t) in
+      record { the_sums = sums; the_cells = published scan lists s exact is small sums room p }
+
 -- each list has the grid's cells
 module _ (bytes : List ℕ) where
   pub counts_length : {sums : Sums} → sums ≡ (tallied_lists (scan_in bytes)).sums → length sums.counts ≡ cells_of (head_in bytes)

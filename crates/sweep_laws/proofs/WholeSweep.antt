@@ -42,7 +42,7 @@ use Rattle.accepted_take.specs.TakenLists.{sum_lengths}
 use Rattle.sweep.specs.declared.Sweep.{Sweep}
 use Rattle.sweep.specs.declared.Swept.TheVariants.{State}
 use Rattle.sweep.specs.SweepOperations.{swept_answer, open_refusal, opened, Opens}
-use Rattle.sweep_laws.specs.SweepSequence.{SweepLists, Held, held_from, Call, Sixteen, Sequence, held_after, no_rays, accepted_rays, whole_scan, NotRefusedBy}
+use Rattle.sweep_laws.specs.SweepSequence.{SweepLists, Held, held_from, Call, Sixteen, Sequence, held_after, no_rays, accepted_rays, whole_scan, NotRefusedBy, accepted_with, handed_on}
 use Rattle.sweep_laws.specs.WholeSweep.{WholeSweep, AsTallied}
 use Rattle.sweep_laws.proofs.JoinedRays.{told_length}
 use Rattle.sweep_laws.proofs.GoodRays.{told_so_far}
@@ -98,8 +98,8 @@ module _ {head : ScanHead} {lengths azimuths qualities : Bool} (numbers : Accept
 after_calls : {head : ScanHead} {lent : SweepLists} {rays : RayGroup} {held : Held} (calls : List Call) → SoFar head lent rays held → Sequence held calls → SoFar head lent (accepted_rays rays calls) (held_after held calls) × NotRefusedBy 31 calls
 unfolding Sequence accepted_rays held_after NotRefusedBy
 after_calls [] so_far done = (so_far, tt)
-after_calls (call ∷ calls) so_far (this, others) =
-    let rest = after_calls calls (after_call so_far call this) others in
+after_calls {rays = rays} {held = held} (call ∷ calls) so_far (this, others) =
+    let rest = after_calls {rays = accepted_with rays call} {held = handed_on held call} calls (after_call so_far call this) others in
     (rest.0, call_other so_far call this calls rest.1)
 
 -- ---- from an accepted opening

@@ -105,6 +105,11 @@ accepted_place-requires c = (range-passed c, site-passed c, grid-passed c)
 pub returns : goal.returns
 returns c =
     let s = c in
-    let good = good_gate s.args.site s.args.azimuth s.args.range (range-passed c.before) (site-passed c.before) in record { rule = accepted-answer c; numbers = numbers_told _ _ _ _ (accepted-answer c); within_50_centimetres = subst (PositionWithin _ s.args.site s.args.grid s.args.azimuth s.args.range) (sym c.accepted_place.ensures)
-              (located_within s.args.site s.args.grid s.args.azimuth s.args.range good _ (lit≤ tt)); exact_unless_marked = subst (ExactUnlessMarked s.args.site s.args.grid s.args.azimuth s.args.range) (sym c.accepted_place.ensures)
-              (located_exact s.args.site s.args.grid s.args.azimuth s.args.range good (grid-passed c.before)) }
+    let good = good_gate s.args.site s.args.azimuth s.args.range (range-passed c.before) (site-passed c.before) in record {
+      rule = accepted-answer c;
+      numbers = numbers_told _ _ _ _ (accepted-answer c);
+      within_50_centimetres = subst (PositionWithin _ s.args.site s.args.grid s.args.azimuth s.args.range) (sym c.accepted_place.ensures)
+          (located_within s.args.site s.args.grid s.args.azimuth s.args.range good _ (lit≤ tt));
+      exact_unless_marked = subst (ExactUnlessMarked s.args.site s.args.grid s.args.azimuth s.args.range) (sym c.accepted_place.ensures)
+          (located_exact s.args.site s.args.grid s.args.azimuth s.args.range good (grid-passed c.before));
+    }
