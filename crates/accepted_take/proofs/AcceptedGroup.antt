@@ -1,61 +1,43 @@
 -- What is known of a group that is not refused, and what each step of taking it needs. Assumes nothing.
 use mathlib.Core.Bool.{Bool, true, false}
-use mathlib.Core.List.{List}
-use mathlib.Core.Path.{◌≡◌, sym, ap, ◌∙◌}
+use mathlib.Core.List.{List, ◌++◌, append_assoc}
+use mathlib.Core.Path.{◌≡◌, refl, sym, ap, ◌∙◌}
 use Prim.Native.Nat.{ℕ, ◌+◌, ◌*◌, ◌≤◌}
-use native.Mathlib.Nat.{add-mul, mul-le-mul_right}
+use native.Mathlib.Nat.{add-mul, mul-le-mul, mul-le-mul_right}
 use native.Mathlib.Omega.{arith}
 use borrow.Author.Tests.{eqb-true, eqb-false, not-true}
-use lib.ListN.{length}
-use lib.Seq.{sets}
+use borrow.Rule.Slice.PartMut.{put_mid}
+use lib.ListN.{length, take, drop}
+use lib.Seq.{sets, sets-eq, drop-drop}
 use Rattle.arithmetic.specs.Places.{all_of}
 use Rattle.arithmetic.proofs.Test.{and_true}
 use Rattle.refusal.proofs.RangeBounds.{range_bounds}
 use Rattle.refusal.proofs.Then.{then_none}
 use Rattle.limits.specs.Accepted.{azimuth_accepted, site_accepted, grid_accepted}
-use Rattle.placement.specs.declared.gate.Placement.{Placement}
-use Rattle.placement.specs.declared.survey.Survey.{Survey}
-use Rattle.placement.specs.Survey.{Surveyed, survey_of}
-use Rattle.placement.proofs.SurveyLimits.{surveyed_of}
+use Rattle.placement.specs.declared.centres.Centres.{Centres}
+use Rattle.placement.specs.Gate.{PlaceAnswer}
+use Rattle.placement.specs.SurveyTerms.{SurveyTerms}
+use Rattle.placement.specs.Survey.{survey_of}
 use Rattle.tally.specs.LentSums.{Sums}
 use Rattle.tally.specs.Tally.{added_sums}
 use Rattle.scan.specs.declared.head.ScanHead.{ScanHead}
-use Rattle.scan.specs.LentLists.{Lists}
+use Rattle.scan.specs.LentLists.{Lists, lists_held}
 use Rattle.scan.specs.Rays.{regular_rays}
-use Rattle.scan.specs.Scan.{gates_of, cells_of}
+use Rattle.scan.specs.Scan.{gates_of}
 use Rattle.scan.specs.ScanRefusal.{centres_accepted, quality_accepted}
 use Rattle.scan.proofs.AcceptedScan.{accepted_numbers}
+use Rattle.scan.proofs.RayLaws.{gates_length, regular_gates}
 use Rattle.scan_ledger.specs.LedgerRoom.{RaysSpan, surveyed_gates}
 use Rattle.scan_ledger.specs.ScanLedger.{gates_told}
 use Rattle.scan_ledger.proofs.AcceptedLedger.{centres_most, accepted_gates}
-use Rattle.ray_sums.specs.RaySums.{AddsAll}
+use Rattle.ray_sums.specs.RaySums.{AddsAll, RayRanges}
 use Rattle.group_sums.specs.GroupRoom.{GroupAddable}
-use Rattle.sweep_checks.specs.SweepLengths.{sums_accepted, group_accepted}
+use Rattle.sweep_checks.specs.RayGroup.{RayGroup}
+use Rattle.sweep_checks.specs.SweepLengths.{group_accepted}
 use Rattle.sweep_checks.specs.SweepNumbers.{take_number}
+use Rattle.sweep_checks.proofs.AcceptedSums.{AcceptedSums, accepted_sums}
 use Rattle.sweep_checks.proofs.PassedState.{passed_state}
-use Rattle.accepted_take.specs.RayGroup.{RayGroup}
-use Rattle.accepted_take.specs.TakenLists.{group_lengths, sum_lengths, group_ledger, group_marks, taken_lists, take_checks, TakesGroup}
-
--- ---- the lengths
-
-pub record AcceptedSums (head : ScanHead) (sums : Sums) : Type 0 where
-  pub counts_length : length sums.counts ≡ cells_of head
-  pub quality_sums_length : length sums.quality_sums ≡ cells_of head
-  pub value_sums_length : length sums.value_sums ≡ cells_of head
-  pub weighted_sums_length : length sums.weighted_sums ≡ cells_of head
-
-pub accepted_sums : (head : ScanHead) (sums : Sums) → sums_accepted head (sum_lengths sums) ≡ true → AcceptedSums head sums
-unfolding sums_accepted
-accepted_sums head sums e =
-    let first = and_true _ _ e in
-    let second = and_true _ _ first.1 in
-    let third = and_true _ _ second.1 in
-    record {
-      counts_length = eqb-true _ _ first.0;
-      quality_sums_length = eqb-true _ _ second.0;
-      value_sums_length = eqb-true _ _ third.0;
-      weighted_sums_length = eqb-true _ _ third.1;
-    }
+use Rattle.accepted_take.specs.TakenLists.{group_ledger, group_marks, taken_lists, take_checks, TakesGroup}
 
 -- ---- a group that is not refused, with the lists that are lent for it
 
@@ -84,7 +66,7 @@ accepted_group head closed taken group lists e =
     let state = passed_state head closed taken (length group.azimuths) both.0 in
     let numbers = accepted_numbers head _ _ _ both.1 in
     let gates = range_bounds 1 1000 head.gates numbers.gates_accepted in
-    let lengths = and_true (group_accepted head (group_lengths group lists)) _ numbers.lengths_pass in
+    let lengths = and_true (group_accepted head group lists) _ numbers.lengths_pass in
     let first = and_true _ _ lengths.0 in
     let second = and_true _ _ first.1 in
     let third = and_true _ _ second.1 in
@@ -110,56 +92,80 @@ accepted_group head closed taken group lists e =
 
 -- ---- what each step needs
 
-module _ {head : ScanHead} {closed : Bool} {taken : ℕ} {group : RayGroup} {lists : Lists} (good : AcceptedGroup head closed taken group lists) where
-  pub is_surveyed : Surveyed (survey_of head.site head.grid)
-  is_surveyed = surveyed_of head.site head.grid good.site good.grid
+-- a part of a list, written over
+put_stored : (start places : ℕ) (list written : List ℕ) → length written ≡ places → start + places ≤ length list → put_mid start places list written ≡ sets list start written
+put_stored start places list written e h =
+    ap (λ (l : List ℕ). take start list ++ (written ++ l)) (drop-drop places start list ∙ ap (λ (n : ℕ). drop (start + n) list) (sym e)) ∙ sym (append_assoc (take start list) written _) ∙ sym (sets-eq written list start (omega arith))
 
-  pub addable : {entries : List ℕ} → length entries ≡ head.gates → GroupAddable head.first head.spacing entries group.azimuths group.values group.qualities lists.sums
-  addable {entries} e =
-      let gates : length group.azimuths * head.gates ≡ length group.azimuths * length entries = ap (λ (g : ℕ). length group.azimuths * g) (sym e) in
+abbrev pub centres_in : ScanHead → Centres
+centres_in head = record { first = head.first; spacing = head.spacing }
+
+module _ {head : ScanHead} {closed : Bool} {taken : ℕ} {group : RayGroup} {lists : Lists} (good : AcceptedGroup head closed taken group lists) where
+  -- no gate of so many in a ray lies beyond the greatest range
+  in_ranges : {gates : ℕ} → gates ≡ head.gates → RayRanges (centres_in head) gates
+  in_ranges e = record {
+    gates_most = omega (arith, good.gates_most);
+    ranges = λ g h. centres_most head.gates head.first head.spacing g good.centres (omega arith);
+  }
+
+  pub addable : {gates : ℕ} → gates ≡ head.gates → GroupAddable (centres_in head) gates group.azimuths group.values group.qualities lists.sums
+  addable {gates} e =
+      let same : length group.azimuths * head.gates ≡ length group.azimuths * gates = ap (λ (g : ℕ). length group.azimuths * g) (sym e) in
       record {
-        gates_most = omega (arith, good.gates_most);
-        values_length = good.values_length ∙ gates;
-        qualities_length = good.qualities_length ∙ gates;
+        in_range = in_ranges e;
+        values_length = good.values_length ∙ same;
+        qualities_length = good.qualities_length ∙ same;
         quality_sums_length = good.sums.quality_sums_length ∙ sym good.sums.counts_length;
         value_sums_length = good.sums.value_sums_length ∙ sym good.sums.counts_length;
         weighted_sums_length = good.sums.weighted_sums_length ∙ sym good.sums.counts_length;
-        ranges = λ g h. centres_most head.gates head.first head.spacing g good.centres (omega arith);
       }
 
-  behind : taken * head.gates + length group.azimuths * head.gates ≤ gates_of head
+  pub behind : taken * head.gates + length group.azimuths * head.gates ≤ gates_of head
   unfolding gates_of
   behind = omega (arith, add-mul taken (length group.azimuths) head.gates, mul-le-mul_right head.gates good.rays_most)
 
-  -- the rays stand in ledger and marks behind those that were taken before
-  pub rays_span : RaysSpan head.gates head.first head.spacing (taken * head.gates) group.azimuths lists.ledger lists.marks
-  rays_span = record {
-    gates_least = good.gates_least;
+  pub end_most : taken * head.gates + length group.azimuths * head.gates ≤ 720000
+  unfolding gates_of
+  end_most = omega (arith, behind, mul-le-mul {n₂ = 720} {m₂ = 1000} good.rays_limit good.gates_most)
+
+  -- ledger and marks are lent from the place behind the rays that were taken before, as many places as the rays have gates
+  pub rays_span : {ledger marks : List ℕ} → length ledger ≡ length group.azimuths * head.gates → length marks ≡ length group.azimuths * head.gates → RaysSpan head.gates (centres_in head) group.azimuths ledger marks
+  rays_span e m = record {
     gates_most = good.gates_most;
-    end_most = omega (arith, behind, good.ledger_length);
-    marks_most = omega (arith, behind, good.marks_length);
+    ledger_length = e;
+    marks_length = m;
     ranges = λ g h. centres_most head.gates head.first head.spacing g good.centres h;
   }
 
-  pub told_is : (told : Placement → ℕ) (survey : Survey) (gates : ℕ) → survey ≡ survey_of head.site head.grid → gates ≡ head.gates → surveyed_gates told survey head.first head.spacing (regular_rays gates group.azimuths) ≡ gates_told told head (regular_rays head.gates group.azimuths)
+  pub told_is : (told : PlaceAnswer → ℕ) (survey : SurveyTerms) (gates : ℕ) → survey ≡ survey_of head.site head.grid → gates ≡ head.gates → surveyed_gates told survey (centres_in head) (regular_rays gates group.azimuths) ≡ gates_told told head (regular_rays head.gates group.azimuths)
   told_is told survey gates s g = rw (s, g) (accepted_gates head good.centres good.site good.grid told group.azimuths good.azimuths_good)
+
+  -- what is told of the rays' gates, written there
+  pub told_stored : (told : PlaceAnswer → ℕ) (survey : SurveyTerms) (lent : List ℕ) {places : ℕ} {written : List ℕ} → survey ≡ survey_of head.site head.grid → length lent ≡ gates_of head → places ≡ length group.azimuths * head.gates → written ≡ surveyed_gates told survey (centres_in head) (regular_rays head.gates group.azimuths) → put_mid (taken * head.gates) places lent written ≡ sets lent (taken * head.gates) (gates_told told head (regular_rays head.gates group.azimuths))
+  unfolding gates_told
+  told_stored told survey lent s all p w =
+      let is = w ∙ told_is told survey head.gates s refl in
+      let size = ap (length {A = ℕ}) is ∙ gates_length _ head.first head.spacing _ ∙ regular_gates head.gates group.azimuths in
+      put_stored (taken * head.gates) _ lent _ (size ∙ sym p) (omega (arith, behind, all, p)) ∙ ap (sets lent (taken * head.gates)) is
 
   -- ---- the answer
 
   module _ {written : List ℕ} {sums : Sums} {added : Bool} (is : written ≡ group_ledger head group) (adds : AddsAll written group.values group.qualities (record { entry = lists.sums; exit = sums }) added) where
-    pub group_taken : {ledger marks : List ℕ} → added ≡ true → ledger ≡ sets lists.ledger (taken * head.gates) (group_ledger head group) → marks ≡ sets lists.marks (taken * head.gates) (group_marks head group) → TakesGroup head taken group (record { entry = lists; exit = record { ledger = ledger; marks = marks; sums = sums } }) true
-    unfolding taken_lists
-    group_taken was e m =
-        let there = rw is at adds in
-        let all : sums ≡ added_sums (group_ledger head group) group.values group.qualities lists.sums = rw was at there.the_sums in
-        record {
-          the_answer = sym was ∙ there.the_answer;
-          the_lists = λ i. record { ledger = e i; marks = m i; sums = all i };
-        }
+    -- the sums are lent as four slices of their own
+    module _ {counts quality_sums value_sums weighted_sums : List ℕ} (c : counts ≡ sums.counts) (q : quality_sums ≡ sums.quality_sums) (v : value_sums ≡ sums.value_sums) (w : weighted_sums ≡ sums.weighted_sums) where
+      pub group_taken : {ledger marks : List ℕ} → added ≡ true → ledger ≡ sets lists.ledger (taken * head.gates) (group_ledger head group) → marks ≡ sets lists.marks (taken * head.gates) (group_marks head group) → TakesGroup head taken group (record { entry = lists; exit = lists_held ledger marks counts quality_sums value_sums weighted_sums }) true
+      unfolding taken_lists
+      group_taken was e m =
+          let there = rw is at adds in
+          let all : sums ≡ added_sums (group_ledger head group) group.values group.qualities lists.sums = rw was at there.the_sums in
+          record {
+            the_answer = sym was ∙ there.the_answer;
+            the_lists = rw (c, q, v, w) (λ i. record { ledger = e i; marks = m i; sums = all i });
+          }
 
-    pub group_left : added ≡ false → TakesGroup head taken group (record { entry = lists; exit = record { ledger = lists.ledger; marks = lists.marks; sums = sums } }) false
-    unfolding taken_lists
-    group_left was =
-        let there = rw is at adds in
-        let same : sums ≡ lists.sums = rw was at there.the_sums in
-        record { the_answer = sym was ∙ there.the_answer; the_lists = λ i. record { ledger = lists.ledger; marks = lists.marks; sums = same i } }
+      pub group_left : added ≡ false → TakesGroup head taken group (record { entry = lists; exit = lists_held lists.ledger lists.marks counts quality_sums value_sums weighted_sums }) false
+      unfolding taken_lists
+      group_left was =
+          let there = rw is at adds in
+          let same : sums ≡ lists.sums = rw was at there.the_sums in
+          record { the_answer = sym was ∙ there.the_answer; the_lists = rw (c, q, v, w) (λ i. record { ledger = lists.ledger; marks = lists.marks; sums = same i }) }

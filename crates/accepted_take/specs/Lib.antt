@@ -1,2 +1,1 @@
-pub mod RayGroup
 pub mod TakenLists

@@ -1,11 +1,10 @@
 -- Document 02, T-01 and T-02: a group's refusal, and what the lists hold once its rays are taken. Assumes nothing.
-use Rattle.std.specs.Prelude.{Bool, cond, List, [], ◌∷◌, ◌≡◌, ℕ, ◌*◌, length}
+use Rattle.std.specs.Prelude.{Bool, cond, List, [], ◌∷◌, ◌≡◌, ℕ, ◌*◌}
 use denote.Triple.Both.{Both}
 use Rattle.std.proofs.lemmas.List.Edits.{sets}
 use Rattle.arithmetic.specs.Places.{all_of}
 use Rattle.refusal.specs.Checks.{◌unless◌, first_refusal, ◌then◌}
 use Rattle.limits.specs.Accepted.{azimuth_accepted}
-use Rattle.tally.specs.LentSums.{Sums}
 use Rattle.tally.specs.Tally.{added_sums}
 use Rattle.tally.specs.Width.{fit_widths}
 use Rattle.scan.specs.declared.head.ScanHead.{ScanHead}
@@ -13,27 +12,8 @@ use Rattle.scan.specs.LentLists.{Lists}
 use Rattle.scan.specs.Rays.{regular_rays}
 use Rattle.scan.specs.ScanRefusal.{quality_accepted}
 use Rattle.scan_ledger.specs.ScanLedger.{ledger_of, marks_of}
-use Rattle.sweep_checks.specs.declared.lengths.SumLengths.{SumLengths}
-use Rattle.sweep_checks.specs.declared.lengths.GroupLengths.{GroupLengths}
+use Rattle.sweep_checks.specs.RayGroup.{RayGroup}
 use Rattle.sweep_checks.specs.SweepNumbers.{take_number}
-use Rattle.accepted_take.specs.RayGroup.{RayGroup}
-
-abbrev pub sum_lengths : Sums → SumLengths
-sum_lengths sums = record {
-  counts = length sums.counts;
-  quality_sums = length sums.quality_sums;
-  value_sums = length sums.value_sums;
-  weighted_sums = length sums.weighted_sums;
-}
-
-abbrev pub group_lengths : RayGroup → Lists → GroupLengths
-group_lengths group lists = record {
-  azimuths = length group.azimuths;
-  values = length group.values;
-  qualities = length group.qualities;
-  ledger = length lists.ledger;
-  marks = length lists.marks;
-}
 
 -- the group's own ledger, and its own marks
 abbrev pub group_ledger : ScanHead → RayGroup → List ℕ
@@ -53,7 +33,7 @@ taken_lists head taken group lists = record {
 -- 19, 17, 1 to 8
 unfoldable pub take_checks : ScanHead → Bool → ℕ → RayGroup → Lists → ℕ
 take_checks head closed taken group lists =
-    take_number head closed taken (group_lengths group lists) (sum_lengths lists.sums) (all_of azimuth_accepted group.azimuths) (all_of quality_accepted group.qualities)
+    take_number head closed taken group lists (all_of azimuth_accepted group.azimuths) (all_of quality_accepted group.qualities)
 
 -- "last, 31 for a ray by which a count or quality sum would pass 32 bits or a value sum 64", either of the two
 unfoldable pub take_refusal : ScanHead → Bool → ℕ → RayGroup → Lists → ℕ

@@ -2,19 +2,15 @@
 use mathlib.Core.Bool.{true}
 use mathlib.Core.List.{List}
 use mathlib.Core.Path.{◌≡◌, refl, sym, ap, ◌∙◌}
-use Prim.Native.Nat.{ℕ, ◌+◌, ◌*◌, ◌<◌, ◌≤◌}
+use Prim.Native.Nat.{ℕ, ◌*◌, ◌≤◌}
 use native.Mathlib.Nat.{mul-le-mul}
-use native.Mathlib.Omega.{arith}
 use denote.Triple.Both.{Both}
 use borrow.Author.Tests.{leb-true}
 use lib.ListN.{length, get_or, length-replicate}
-use lib.Seq.{sets}
 use Rattle.arithmetic.proofs.Places.{all_at}
-use Rattle.arithmetic.proofs.SetsLaws.{sets_whole}
-use Rattle.placement.specs.declared.gate.Placement.{Placement}
-use Rattle.placement.specs.Gate.{entry_of, mark_of}
-use Rattle.placement.specs.Survey.{Surveyed, survey_of}
-use Rattle.placement.proofs.SurveyLimits.{surveyed_of}
+use Rattle.placement.specs.declared.centres.Centres.{Centres}
+use Rattle.placement.specs.Gate.{PlaceAnswer, entry_of, mark_of}
+use Rattle.placement.specs.Survey.{survey_of}
 use Rattle.tally.specs.LentSums.{Sums}
 use Rattle.tally.specs.Tally.{cleared, added_sums}
 use Rattle.tally.specs.TallyRoom.{Addable, AddsGates}
@@ -23,7 +19,7 @@ use Rattle.tally.proofs.AllAdded.{all_added}
 use Rattle.tally.proofs.TallyWidth.{GatesMost, from_nothing_fits}
 use Rattle.tally.proofs.TallyFromNothing.{from_nothing}
 use Rattle.scan.specs.Rays.{regular_rays}
-use Rattle.scan.specs.LentLists.{Lists}
+use Rattle.scan.specs.LentLists.{Lists, lists_held}
 use Rattle.scan.specs.Scan.{Scan, rays_of, gates_of}
 use Rattle.scan.specs.ScanRefusal.{quality_accepted}
 use Rattle.scan.proofs.AcceptedScan.{AcceptedScan}
@@ -34,39 +30,39 @@ use Rattle.scan_ledger.proofs.AcceptedLedger.{centres_most, accepted_gates}
 use Rattle.accepted_tally.specs.TalliedLists.{tallied_lists}
 
 module _ {scan : Scan} {lists : Lists} (good : AcceptedScan scan lists) where
-  pub is_surveyed : Surveyed (survey_of scan.head.site scan.head.grid)
-  is_surveyed = surveyed_of scan.head.site scan.head.grid good.site good.grid
+  abbrev centres : Centres
+  centres = record { first = scan.head.first; spacing = scan.head.spacing }
 
-  gate_range : (g : ℕ) → g < scan.head.gates → scan.head.first + g * scan.head.spacing ≤ 46000000
-  gate_range g h = centres_most scan.head.gates scan.head.first scan.head.spacing g good.centres h
-
-  pub rays_span : RaysSpan scan.head.gates scan.head.first scan.head.spacing 0 scan.azimuths lists.ledger lists.marks
+  -- a place for each gate
+  as_many : {many : ℕ} → many ≡ gates_of scan.head → many ≡ length scan.azimuths * scan.head.gates
   unfolding gates_of
+  as_many e = e ∙ ap (λ (n : ℕ). n * scan.head.gates) (sym good.lengths.azimuths_length)
+
+  pub rays_span : RaysSpan scan.head.gates centres scan.azimuths lists.ledger lists.marks
   rays_span = record {
-    gates_least = good.gates_least;
     gates_most = good.gates_most;
-    end_most = omega (arith, good.lengths.ledger_length, ap (λ (n : ℕ). n * scan.head.gates) good.lengths.azimuths_length);
-    marks_most = omega (arith, good.lengths.marks_length, ap (λ (n : ℕ). n * scan.head.gates) good.lengths.azimuths_length);
-    ranges = gate_range;
+    ledger_length = as_many good.lengths.ledger_length;
+    marks_length = as_many good.lengths.marks_length;
+    ranges = λ g h. centres_most scan.head.gates scan.head.first scan.head.spacing g good.centres h;
   }
 
-  -- what is told of each gate, written over a list of as many places
-  module _ (told : Placement → ℕ) where
+  -- what is told of each gate
+  module _ (told : PlaceAnswer → ℕ) where
     told_length : length (gates_told told scan.head (rays_of scan)) ≡ gates_of scan.head
     unfolding gates_told rays_of gates_of
     told_length = gates_length _ _ _ _ ∙ regular_gates scan.head.gates scan.azimuths ∙ ap (λ (n : ℕ). n * scan.head.gates) good.lengths.azimuths_length
 
-    told_is : (lent : List ℕ) → length lent ≡ gates_of scan.head → sets lent 0 (surveyed_gates told (survey_of scan.head.site scan.head.grid) scan.head.first scan.head.spacing (regular_rays scan.head.gates scan.azimuths)) ≡ gates_told told scan.head (rays_of scan)
+    told_is : surveyed_gates told (survey_of scan.head.site scan.head.grid) centres (regular_rays scan.head.gates scan.azimuths) ≡ gates_told told scan.head (rays_of scan)
     unfolding rays_of
-    told_is lent e = rw (accepted_gates scan.head good.centres good.site good.grid told scan.azimuths good.azimuths_good) (sets_whole lent _ (told_length ∙ sym e))
+    told_is = accepted_gates scan.head good.centres good.site good.grid told scan.azimuths good.azimuths_good
 
-  pub ledger_is : sets lists.ledger 0 (surveyed_gates entry_of (survey_of scan.head.site scan.head.grid) scan.head.first scan.head.spacing (regular_rays scan.head.gates scan.azimuths)) ≡ (tallied_lists scan).ledger
+  pub ledger_is : surveyed_gates entry_of (survey_of scan.head.site scan.head.grid) centres (regular_rays scan.head.gates scan.azimuths) ≡ (tallied_lists scan).ledger
   unfolding tallied_lists
-  ledger_is = told_is entry_of lists.ledger good.lengths.ledger_length
+  ledger_is = told_is entry_of
 
-  pub marks_are : sets lists.marks 0 (surveyed_gates mark_of (survey_of scan.head.site scan.head.grid) scan.head.first scan.head.spacing (regular_rays scan.head.gates scan.azimuths)) ≡ (tallied_lists scan).marks
+  pub marks_are : surveyed_gates mark_of (survey_of scan.head.site scan.head.grid) centres (regular_rays scan.head.gates scan.azimuths) ≡ (tallied_lists scan).marks
   unfolding tallied_lists
-  marks_are = told_is mark_of lists.marks good.lengths.marks_length
+  marks_are = told_is mark_of
 
   gates_most : gates_of scan.head ≤ 720000
   unfolding gates_of
@@ -117,3 +113,6 @@ module _ {scan : Scan} {lists : Lists} (good : AcceptedScan scan lists) where
         all_added adds (ap (λ (s : Sums). fit_widths (added_sums written scan.values scan.qualities s)) from ∙ from_nothing_fits most lists.sums)
         ∙ ap (added_sums written scan.values scan.qualities) from
         ∙ rw ledger-written (from_nothing _ _ _ lists.sums lengths.counts_length lengths.quality_sums_length lengths.value_sums_length lengths.weighted_sums_length)
+
+pub lists_are : {ledger marks counts quality_sums value_sums weighted_sums : List ℕ} {told : Lists} → ledger ≡ told.ledger → marks ≡ told.marks → counts ≡ told.sums.counts → quality_sums ≡ told.sums.quality_sums → value_sums ≡ told.sums.value_sums → weighted_sums ≡ told.sums.weighted_sums → lists_held ledger marks counts quality_sums value_sums weighted_sums ≡ told
+lists_are l m c q v w = λ i. record { ledger = l i; marks = m i; sums = record { counts = c i; quality_sums = q i; value_sums = v i; weighted_sums = w i } }

@@ -1,9 +1,10 @@
 -- Floor division with its remainder. Assumes nothing.
-use mathlib.Core.Path.{◌≡◌, sym, ◌∙◌, ap}
+use mathlib.Core.Path.{◌≡◌, refl, sym, ◌∙◌, ap}
 use Prim.Native.Nat.{ℕ, suc, ◌+◌, ◌*◌, ◌-◌, ◌/◌, ◌%◌, ◌<◌, ◌≤◌}
 use native.Mathlib.Nat.{mod-lt, mod-eq_of_lt, div-add-mod', div-eq_of_lt-le, mul-add-mod_self_right}
 use native.Mathlib.Omega.{arith}
 use lib.IntN.{ℤ, pos, negsuc, ◌+ℤ◌, ◌-ℤ◌, ◌*ℤ◌, nat_abs}
+use Rattle.std.specs.Int.{int_rem_euclid}
 use Rattle.arithmetic.specs.Floor.{◌÷◌, ◌modulo◌}
 use Rattle.arithmetic.proofs.Integer.{as_difference, same_difference, differences}
 
@@ -18,6 +19,12 @@ unfolding ◌modulo◌
 floor_modulo (pos a) m h = ap pos (sym (div-add-mod' a m))
 floor_modulo (negsuc a) m h =
     simp differences (same_difference _ _ _ _ (omega (arith, div-add-mod' a m, mod-lt a h)))
+
+-- the machine's remainder that is never negative
+pub remainder_modulo : (z : ℤ) (m : ℕ) → int_rem_euclid z (pos m) ≡ pos (z modulo m)
+unfolding ◌modulo◌
+remainder_modulo (pos a) m = refl
+remainder_modulo (negsuc a) m = ap pos (omega arith)
 
 less_floor : (z a : ℤ) (r : ℕ) → z ≡ a +ℤ pos r → z -ℤ a ≡ pos r
 less_floor z a r e =

@@ -11,4 +11,3 @@ pub mod Test
 pub mod Table
 pub mod Places
 pub mod SetsLaws
-pub mod StoredTable

@@ -1,17 +1,15 @@
 -- Integers in 64-bit words: what fits, and what is read back. Assumes nothing.
-use mathlib.Core.Path.{◌≡◌, refl, ap, ◌∙◌}
-use Prim.Native.Nat.{ℕ, zero, suc, ◌<◌, ◌≤◌}
+use mathlib.Core.Path.{◌≡◌, ap, ◌∙◌}
+use Prim.Native.Nat.{ℕ, ◌<◌, ◌≤◌}
 use native.Mathlib.Omega.{arith}
 use lib.Dec.{T, ltb, ltb→lt}
-use lib.IntN.{ℤ, pos, negsuc, nat_abs, ◌-ℤ◌}
-use lib.Signed.{mag, mag_shr, ◌<ℤ◌}
+use lib.IntN.{ℤ, pos, negsuc, nat_abs}
+use lib.Signed.{mag, mag_shr}
 use mir.Syntax.{w64}
 use mir.Val.{Fits, SFits, to_z, of_z}
 use mir.ValLaws.{sfits_le, to_z-of_z, to_z_pos}
 use Rattle.arithmetic.specs.Floor.{◌÷◌}
 use Rattle.arithmetic.specs.Magnitude.{Magnitude}
-use Rattle.arithmetic.proofs.Integer.{difference_of_naturals}
-use Rattle.arithmetic.proofs.Order.{not_negative}
 
 mag_nat_abs : (z : ℤ) → mag z ≤ nat_abs z
 mag_nat_abs (pos n) = omega arith
@@ -50,23 +48,6 @@ word_pos {n} h = to_z_pos w64 n h
 pub word_natural : {n m : ℕ} → n ≤ m → T (ltb m 9223372036854775808) → to_z w64 n ≡ pos n
 word_natural {n} {m} h t = word_pos (omega (arith, h, ltb→lt m 9223372036854775808 t))
 
--- ---- -1 - z, by which the code takes a negative number apart without leaving the range
-
-pub from_minus_one : (z : ℤ) → z <ℤ pos 0 → negsuc 0 -ℤ z ≡ pos (mag z)
-from_minus_one (pos n) h = absurd (not_negative h)
-from_minus_one (negsuc n) h = difference_of_naturals (suc n) 1 (omega arith) ∙ ap pos (omega arith)
-
-pub negative_is : (z : ℤ) → z <ℤ pos 0 → z ≡ negsuc (mag z)
-negative_is (pos n) h = absurd (not_negative h)
-negative_is (negsuc n) h = refl
-
-pub under_minus_one : (n : ℕ) → negsuc 0 -ℤ pos n ≡ negsuc n
-under_minus_one zero = refl
-under_minus_one (suc n) = ap negsuc (omega arith)
-
--- both halves of the line fit alike
+-- a natural number of 63 bits fits
 pub fits_pos : {n : ℕ} → n < 9223372036854775808 → SFits w64 (pos n)
 fits_pos h = record { sfits = h }
-
-pub fits_negsuc : {n : ℕ} → n < 9223372036854775808 → SFits w64 (negsuc n)
-fits_negsuc h = record { sfits = h }

@@ -1,13 +1,12 @@
 -- The order of integers, as one of natural numbers. Assumes nothing.
 use mathlib.Core.Path.{◌≡◌, refl, sym, subst}
 use mathlib.Core.Bool.{Bool, true, false, not}
-use borrow.Author.Tests.{ltb-true, ltb-false, leb-true, leb-false, le-leb, lt-leb, le-ltb, lt-ltb}
 use Prim.Native.Nat.{ℕ, ◌+◌, ◌*◌, ◌<◌, ◌≤◌}
 use native.Mathlib.Nat.{mul-le-mul, le-div_iff_mul-le}
 use native.Mathlib.Omega.{arith}
 use lib.Dec.{T, leb→le, le→leb, ltb→lt}
 use lib.IntN.{ℤ, pos, negsuc, nat_abs, ◌+ℤ◌, ◌*ℤ◌}
-use lib.Signed.{◌<ℤ◌, ◌≤ℤ◌, lt_z, le_z, lt_z_yes, lt_z_no}
+use lib.Signed.{◌<ℤ◌, ◌≤ℤ◌, lt_z, lt_z_yes, lt_z_no}
 use Rattle.arithmetic.specs.Floor.{◌÷◌}
 use Rattle.arithmetic.specs.Magnitude.{Magnitude}
 use Rattle.arithmetic.proofs.Integer.{above, below, is_sum}
@@ -27,31 +26,6 @@ test_below a b e = lt_z_yes (subst T (sym e) tt)
 
 pub test_not_below : (a b : ℤ) → lt_z a b ≡ false → b ≤ℤ a
 test_not_below a b e = lt_z_no (subst (λ (t : Bool). T (not t)) (sym e) tt)
-
--- and what it says of the opposite test
-pub below_opposite : (a b : ℤ) → lt_z a b ≡ true → le_z b a ≡ false
-below_opposite (pos a) (pos b) e = lt-leb b a (ltb-true a b e)
-below_opposite (pos a) (negsuc b) e = sym e
-below_opposite (negsuc a) (pos b) e = refl
-below_opposite (negsuc a) (negsuc b) e = lt-leb a b (ltb-true b a e)
-
-pub not_below_opposite : (a b : ℤ) → lt_z a b ≡ false → le_z b a ≡ true
-not_below_opposite (pos a) (pos b) e = le-leb b a (ltb-false a b e)
-not_below_opposite (pos a) (negsuc b) e = refl
-not_below_opposite (negsuc a) (pos b) e = sym e
-not_below_opposite (negsuc a) (negsuc b) e = le-leb a b (ltb-false b a e)
-
-pub at_most_opposite : (a b : ℤ) → le_z a b ≡ true → lt_z b a ≡ false
-at_most_opposite (pos a) (pos b) e = le-ltb b a (leb-true a b e)
-at_most_opposite (pos a) (negsuc b) e = sym e
-at_most_opposite (negsuc a) (pos b) e = refl
-at_most_opposite (negsuc a) (negsuc b) e = le-ltb a b (leb-true b a e)
-
-pub not_at_most_opposite : (a b : ℤ) → le_z a b ≡ false → lt_z b a ≡ true
-not_at_most_opposite (pos a) (pos b) e = lt-ltb b a (leb-false a b e)
-not_at_most_opposite (pos a) (negsuc b) e = refl
-not_at_most_opposite (negsuc a) (pos b) e = sym e
-not_at_most_opposite (negsuc a) (negsuc b) e = lt-ltb a b (leb-false b a e)
 
 -- a natural number is not below 0
 pub not_negative : {n : ℕ} → pos n <ℤ pos 0 → ⊥

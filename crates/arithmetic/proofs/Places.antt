@@ -1,14 +1,14 @@
 -- Lists by what stands at each place, and sums over places. Assumes nothing.
 use mathlib.Core.Path.{◌≡◌, refl, sym, ap, ap₂, ◌∙◌}
 use mathlib.Core.Bool.{Bool, true, false, not, cond}
-use mathlib.Core.List.{List, [], ◌∷◌, ◌++◌, append-nil}
+use mathlib.Core.List.{List, [], ◌∷◌}
 use Prim.Native.Nat.{ℕ, zero, suc, ◌+◌, ◌*◌, ◌/◌, ◌<◌, ◌≤◌, zero-le, suc-le-suc}
 use native.Mathlib.Nat.{le_antisymm, zero-lt-suc, not-suc-le-zero, le_of_suc-le-suc, add-zero, add-suc, zero-mul, suc-mul, mul_comm, mul-le-mul_right, div-le_of_le-mul, le-div_iff_mul-le}
 use native.Mathlib.Numerals.{add-one}
 use native.Mathlib.Omega.{arith}
 use borrow.Author.Tests.{lt-ltb, le-ltb}
 use lib.Dec.{T, ltb, ltb→lt, nltb→le}
-use lib.ListN.{length, set, length-set, get_or, replicate, drop, drop_of_length-le}
+use lib.ListN.{length, set, length-set, get_or, drop, drop_of_length-le}
 use lib.Seq.{drop-cons, ext_get_or, get_or-set_same, get_or-set_other}
 use Rattle.arithmetic.proofs.Test.{and_true, and_false}
 use Rattle.arithmetic.specs.Places.{table, sum_to, all_of, Written}
@@ -49,10 +49,6 @@ table_set f g (suc n) zero v p e =
 table_set f g (suc n) (suc j) v p e =
     ap₂ (λ (x : ℕ) (l : List ℕ). x ∷ l) (e zero (zero-lt-suc n) (λ q. omega arith))
     (table_set (λ k. f (suc k)) (λ k. g (suc k)) n j v p (λ k h q. e (suc k) (suc-le-suc h) (λ r. q (omega arith))))
-
--- the end of a loop that fills a list with one value, as `borrow.Author.Fill` has it
-pub fill_done : (n v : ℕ) (d l : List ℕ) → n ≤ length d → length d ≤ n → l ≡ replicate n v ++ drop n d → l ≡ replicate (length d) v
-fill_done n v d l h k e = e ∙ rw (drop_of_length-le d k, append-nil, le_antisymm h k)
 
 -- ---- a loop that writes one place after the other
 

@@ -10,6 +10,7 @@ pub fn floor_div(a: i64, d: u64) -> i64
     requires { 0 < d }
     ensures { result ≡ a ÷ d }
 {
+    // Kept: what may not change, the clause `requires { 0 < d }`: `div_euclid` divides by an i64, and would ask for d < 2^63 as well.
     if a < 0 {
         -1 - (((-1 - a) as u64 / d) as i64)
     } else {

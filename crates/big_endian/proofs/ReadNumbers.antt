@@ -1,67 +1,57 @@
 -- Numbers of one, two and four bytes, as the code puts them together, and their two's complement. Assumes nothing.
-use mathlib.Core.Bool.{Bool, true, false, cond}
-use mathlib.Core.List.{List}
-use mathlib.Core.Path.{◌≡◌, ap, ◌∙◌}
-use Prim.Native.Nat.{ℕ, suc, ◌+◌, ◌-◌, ◌*◌, ◌/◌, ◌<◌, ◌≤◌}
-use native.Mathlib.Nat.{add-zero, add_assoc, one-mul}
+use mathlib.Core.Bool.{Bool, true, false, cond, ◌&&◌}
+use mathlib.Core.List.{List, [], ◌∷◌}
+use Rattle.std.specs.List.{list_all, range_with_len}
+use Rattle.arithmetic.specs.Places.{table}
+use mathlib.Core.Path.{sym, ap₂, ◌≡◌, refl, ap, ◌∙◌}
+use Prim.Native.Nat.{ℕ, zero, suc, ◌+◌, ◌-◌, ◌*◌}
+use native.Mathlib.Nat.{zero-add, add-zero}
 use native.Mathlib.Omega.{arith}
-use borrow.Author.Tests.{lt-ltb, le-ltb}
 use lib.Dec.{ltb}
 use lib.IntN.{pos, negsuc}
-use lib.ListN.{length, get_or, drop}
-use mir.Syntax.{w64}
-use mir.Val.{SFits}
+use lib.ListN.{get_or}
+use mir.Syntax.{w16, w32}
+use mir.Val.{to_z, sel}
+use Rattle.std.specs.Int.{from_be_bytes}
 use Rattle.arithmetic.specs.Places.{all_of}
-use Rattle.arithmetic.proofs.Places.{table_at, all_step, all_stop, all_end}
-use Rattle.arithmetic.proofs.Machine.{fits_pos, fits_negsuc}
 use Rattle.big_endian.specs.BigEndian.{number_at, numbers_at, signed_of}
-use Rattle.big_endian.proofs.BigEndianLaws.{numbers_length, number_one}
 
-pub number_two : (bytes : List ℕ) (at : ℕ) → number_at 2 bytes at ≡ get_or bytes at 0 * 256 + get_or bytes (at + 1) 0
+pub number_two : (bytes : List ℕ) (at : ℕ) → number_at 2 bytes at ≡ from_be_bytes w16 (get_or bytes at 0 ∷ get_or bytes (at + 1) 0 ∷ [])
 unfolding number_at
 number_two bytes at = rw add-zero (omega arith)
 
-pub number_four : (bytes : List ℕ) (at : ℕ) → number_at 4 bytes at ≡ number_at 2 bytes at * 65536 + number_at 2 bytes (at + 2)
+pub number_four : (bytes : List ℕ) (at : ℕ) → number_at 4 bytes at ≡ from_be_bytes w32 (get_or bytes at 0 ∷ get_or bytes (at + 1) 0 ∷ get_or bytes (at + 2) 0 ∷ get_or bytes (at + 3) 0 ∷ [])
 unfolding number_at
-number_four bytes at = rw (add_assoc at 2 0, add_assoc at 2 1) (omega arith)
+number_four bytes at = rw add-zero (omega arith)
 
--- a number of one byte in a list of them
-pub byte_in_list : (bytes : List ℕ) (start k : ℕ) → number_at 1 bytes (start + 1 * k) ≡ get_or bytes (start + k) 0
-byte_in_list bytes start k = number_one bytes (start + 1 * k) ∙ ap (λ (n : ℕ). get_or bytes (start + n) 0) (one-mul k)
+-- ---- a test of each number, by its index
 
--- ---- a loop that looks for a number that fails a test
+all_in_table : (test : ℕ → Bool) (f g : ℕ → ℕ) (a n : ℕ) → ((k : ℕ) → g k ≡ f (a + k)) → list_all (λ k. test (f k)) (range_with_len a n) ≡ all_of test (table g n)
+unfolding table all_of
+all_in_table test f g a zero e = refl
+all_in_table test f g a (suc n) e =
+    ap₂ (λ (x y : Bool). x && y) (ap test (ap f (sym (add-zero a)) ∙ sym (e 0)))
+    (all_in_table test f (λ k. g (suc k)) (a + 1) n (λ k. e (suc k) ∙ ap f (omega arith)))
 
-module _ (test : ℕ → Bool) (width : ℕ) (bytes : List ℕ) (at count k : ℕ) (b : Bool) where
-  number_in_list : k < count → get_or (numbers_at width bytes at count) k 0 ≡ number_at width bytes (at + width * k)
-  unfolding numbers_at
-  number_in_list h = table_at (λ j. number_at width bytes (at + width * j)) count k h
+pub all_numbers : (test : ℕ → Bool) (width : ℕ) (bytes : List ℕ) (at n : ℕ) → list_all (λ k. test (number_at width bytes (at + width * k))) (range_with_len 0 n) ≡ all_of test (numbers_at width bytes at n)
+unfolding numbers_at
+all_numbers test width bytes at n =
+    all_in_table test (λ k. number_at width bytes (at + width * k)) (λ k. number_at width bytes (at + width * k)) 0 n (λ k. ap (λ (m : ℕ). number_at width bytes (at + width * m)) (sym (zero-add k)))
 
-  in_list : k < count → k < length (numbers_at width bytes at count)
-  in_list h = omega (arith, numbers_length width bytes at count)
+-- ---- two's complement, as the machine reads it
 
-  pub tested_step : k < count → test (number_at width bytes (at + width * k)) ≡ true → b ≡ all_of test (drop k (numbers_at width bytes at count)) → b ≡ all_of test (drop (k + 1) (numbers_at width bytes at count))
-  tested_step h t e = all_step test _ k b (in_list h) (ap test (number_in_list h) ∙ t) e
-
-  pub tested_stop : k < count → test (number_at width bytes (at + width * k)) ≡ false → b ≡ all_of test (drop k (numbers_at width bytes at count)) → false ≡ b
-  tested_stop h t e = all_stop test _ k b (in_list h) (ap test (number_in_list h) ∙ t) e
-
-  pub tested_end : count ≤ k → b ≡ all_of test (drop k (numbers_at width bytes at count)) → true ≡ b
-  tested_end h e = all_end test _ k b (omega (arith, numbers_length width bytes at count)) e
-
--- ---- the halves of the span
-
-pub signed_below : (span n : ℕ) → n < span / 2 → signed_of span n ≡ pos n
+pub signed_two : (n : ℕ) → signed_of 65536 n ≡ to_z w16 n
 unfolding signed_of
-signed_below span n h = simp (lt-ltb n (span / 2) h)
-
-pub signed_above : (span n : ℕ) → span / 2 ≤ n → signed_of span n ≡ negsuc (span - 1 - n)
-unfolding signed_of
-signed_above span n h = simp (le-ltb n (span / 2) h) (ap negsuc (omega arith))
-
-pub signed_fits : (span n : ℕ) → span ≤ 4294967296 → n < span → SFits w64 (signed_of span n)
-unfolding signed_of
-signed_fits span n h i = go (ltb n (span / 2))
+signed_two n = go (ltb n 32768)
   where
-    go : (t : Bool) → SFits w64 (cond t (pos n) (negsuc (span - suc n)))
-    go true = fits_pos (omega arith)
-    go false = fits_negsuc (omega arith)
+    go : (t : Bool) → cond t (pos n) (negsuc (65536 - suc n)) ≡ sel t (pos n) (negsuc (65536 - suc n))
+    go true = refl
+    go false = refl
+
+pub signed_four : (n : ℕ) → signed_of 4294967296 n ≡ to_z w32 n
+unfolding signed_of
+signed_four n = go (ltb n 2147483648)
+  where
+    go : (t : Bool) → cond t (pos n) (negsuc (4294967296 - suc n)) ≡ sel t (pos n) (negsuc (4294967296 - suc n))
+    go true = refl
+    go false = refl

@@ -2,7 +2,9 @@
 #![tactic(auto)]
 
 mod read;
+mod word;
 mod written;
 
-pub use read::{byte_at, i16_at, i32_at, u16_at, u32_at};
-pub use written::{put_i16, put_i32, put_u8, put_u16, put_u32};
+pub use read::{byte_at, i16_at, i32_at};
+pub use word::{Word, put_list, read_list};
+pub use written::{put, put_signed};

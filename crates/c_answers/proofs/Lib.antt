@@ -1,1 +1,1 @@
-pub mod SameGate
+pub mod Told

@@ -1,1 +1,2 @@
 pub mod LentNumbers
+pub mod RecordCalls

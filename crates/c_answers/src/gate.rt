@@ -1,47 +1,28 @@
-// The answer of the placement of one gate.
-ghost use Rattle.refusal.specs.Answer.{number_in, left_by};
-ghost use Rattle.placement.specs.Gate.{placement_answer};
+// The numbers of one gate, as they are lent for its placement.
 ghost use Rattle.std.specs.Prelude.{◌≡◌};
-ghost use Rattle.c_answers.specs.LentNumbers.{lent_gate};
+ghost use Rattle.placement.specs.Gate.{gate_of};
+ghost use Rattle.c_answers.specs.LentNumbers.{KeepsGate, gate_in};
 
 use placement::Placement;
 
-// Writes a placement through the lent numbers.
-pub fn answer_gate(
-    placement: Placement,
-    cell: &mut u32,
-    x: &mut i64,
-    y: &mut i64,
-    mark: &mut u8,
-) -> u32
-    ensures value { result ≡ number_in (placement_answer placement) }
-    ensures gate_value { let gate = lent_gate cell x y mark in
-        gate.exit ≡ left_by gate.entry (placement_answer placement) }
-{
-    match placement {
-        Placement::Inside {
-            cell: c,
-            x: at_x,
-            y: at_y,
-            mark: m,
-        } => {
-            *cell = c;
-            *x = at_x;
-            *y = at_y;
-            *mark = m as u8;
-            0
-        }
-        Placement::Outside {
-            x: at_x,
-            y: at_y,
-            mark: m,
-        } => {
-            *cell = 4294967295;
-            *x = at_x;
-            *y = at_y;
-            *mark = m as u8;
-            0
-        }
-        Placement::Refused(number) => number,
+#[derive(Drop)]
+pub struct GateMut<'a> {
+    pub cell: &'a mut u32,
+    pub x: &'a mut i64,
+    pub y: &'a mut i64,
+    pub mark: &'a mut u8,
+}
+
+impl GateMut<'_> {
+    // The cell of a gate outside the grid is 4,294,967,295.
+    pub fn put(&mut self, placement: Placement)
+        ensures written { gate_in self.new ≡ gate_of placement }
+        ensures kept { KeepsGate self.old self.new }
+    {
+        // Kept: the C interface, where this number is no cell.
+        *self.cell = placement.cell.unwrap_or(u32::MAX);
+        *self.x = placement.x;
+        *self.y = placement.y;
+        *self.mark = u8::from(placement.mark);
     }
 }

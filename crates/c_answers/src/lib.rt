@@ -1,12 +1,10 @@
-// What our functions answer, as C is told it: a number, and what is lent for the values.
+// What our functions answer, as C is told it: the values in what is lent, and a refusal as its number.
 #![tactic(auto)]
 
-mod field;
 mod gate;
-mod outcome;
+mod number;
 mod record;
 
-pub use field::answer_field;
-pub use gate::answer_gate;
-pub use outcome::outcome_number;
-pub use record::{answer_head, answer_size};
+pub use gate::GateMut;
+pub use number::refusal_number;
+pub use record::{answer_field, answer_head, answer_read, answer_write};

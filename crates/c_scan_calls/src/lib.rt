@@ -1,5 +1,4 @@
-// A gate placed, a scan tallied and sums published, from what C gives. The answer is 0, with what is lent written, or the refusal number, with all
-// that is lent as it came in.
+// A gate placed, a scan tallied and sums published, from what C gives. A refusal leaves all that is lent as it came in.
 #![tactic(auto)]
 
 mod gate;

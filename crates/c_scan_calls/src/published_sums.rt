@@ -1,28 +1,21 @@
 // The published cells, from any sums.
+ghost use Rattle.refusal.specs.Numbered.{refusal_in};
+ghost use Rattle.tally.specs.LentSums.{KeepsCells, lent_cells, sums_read};
+ghost use Rattle.c_structs.specs.Structs.{weighting_of};
 ghost use Rattle.c_scan_calls.specs.ScanCalls.{PublishesSums};
 
-use c_answers::outcome_number;
 use c_structs::weighting_of;
+use publish::publish;
+use refusal::Refusal;
+use tally::{CellsMut, SumsRef};
 
 pub fn answer_publish(
     weighting: i64,
-    counts: &[u32],
-    quality_sums: &[u32],
-    value_sums: &[u64],
-    weighted_sums: &[u64],
-    means: &mut [u16],
-    cell_qualities: &mut [u8],
-) -> u32
-    ensures { PublishesSums weighting counts.now quality_sums.now value_sums.now weighted_sums.now means cell_qualities result }
+    sums: SumsRef<'_>,
+    cells: &mut CellsMut<'_>,
+) -> Result<(), Refusal>
+    ensures published { PublishesSums (weighting_of weighting) (sums_read sums.entry) (lent_cells cells) (refusal_in result) }
+    ensures kept { KeepsCells cells.old cells.new }
 {
-    let asked = weighting_of(weighting);
-    outcome_number(publish::publish(
-        asked,
-        counts,
-        quality_sums,
-        value_sums,
-        weighted_sums,
-        means,
-        cell_qualities,
-    ))
+    publish(weighting_of(weighting), sums, cells)
 }

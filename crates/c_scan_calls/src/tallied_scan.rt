@@ -1,34 +1,22 @@
 // The tally of a scan.
+ghost use Rattle.refusal.specs.Numbered.{refusal_in};
+ghost use Rattle.scan.specs.LentLists.{KeepsLists, lent_lists};
+ghost use Rattle.scan.specs.Scan.{scan_of};
+ghost use Rattle.c_structs.specs.Structs.{head_of};
 ghost use Rattle.c_scan_calls.specs.ScanCalls.{TalliesScan};
 
-use c_answers::outcome_number;
 use c_structs::head_of;
+use refusal::Refusal;
+use scan::{ListsMut, Rays};
+use scan_tally::tally;
 
 pub fn answer_tally(
     scan: &[i64; 13],
-    azimuths: &[u32],
-    values: &[u16],
-    qualities: &[u8],
-    ledger: &mut [u32],
-    marks: &mut [u8],
-    counts: &mut [u32],
-    quality_sums: &mut [u32],
-    value_sums: &mut [u64],
-    weighted_sums: &mut [u64],
-) -> u32
-    ensures { TalliesScan scan.now azimuths.now values.now qualities.now ledger marks counts quality_sums value_sums weighted_sums result }
+    rays: Rays<'_>,
+    lists: &mut ListsMut<'_>,
+) -> Result<(), Refusal>
+    ensures tallied { TalliesScan (scan_of (head_of scan.now) rays.entry) (lent_lists lists) (refusal_in result) }
+    ensures kept { KeepsLists lists.old lists.new }
 {
-    let head = head_of(scan);
-    outcome_number(scan_tally::tally(
-        head,
-        azimuths,
-        values,
-        qualities,
-        ledger,
-        marks,
-        counts,
-        quality_sums,
-        value_sums,
-        weighted_sums,
-    ))
+    tally(head_of(scan), rays, lists)
 }

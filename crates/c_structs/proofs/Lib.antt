@@ -1,2 +1,1 @@
-pub mod StructNumbers
 pub mod StructLimits

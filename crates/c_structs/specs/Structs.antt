@@ -3,7 +3,6 @@ use Rattle.std.specs.Prelude.{Bool, false, cond, List, [], ◌∷◌, ℕ, ◌+�
 use Rattle.limits.specs.declared.grid.Grid.{Grid}
 use Rattle.limits.specs.declared.grid.Grid.TheVariants.{Radolan, Hrap}
 use Rattle.limits.specs.declared.site.Site.{Site}
-use Rattle.refusal.specs.Answer.{Answer, gives, refuses}
 use Rattle.refusal.specs.Unsigned.{unsigned32}
 use Rattle.limits.specs.declared.weighting.Weighting.{Weighting}
 use Rattle.limits.specs.declared.weighting.Weighting.TheVariants.{Plain, ByQuality}
@@ -86,8 +85,3 @@ head_numbers head =
     ∷ grid.rows
     ∷ pos (weighting_byte head.weighting)
     ∷ []
-
--- what an answer with a head leaves in a struct
-unfoldable pub head_left : List ℤ → Answer ScanHead → List ℤ
-head_left before (gives head) = head_numbers head
-head_left before (refuses number) = before

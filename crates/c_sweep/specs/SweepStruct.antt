@@ -1,6 +1,5 @@
 -- The state of a sweep as the struct of signed numbers in which it crosses to C, a list of fifteen numbers. Assumes nothing.
 use Rattle.std.specs.Prelude.{Bool, not, cond, List, [], ◌∷◌, ◌++◌, ℤ, pos, get_or}
-use Rattle.refusal.specs.Answer.{Answer, gives, refuses}
 use Rattle.refusal.specs.Unsigned.{unsigned32}
 use Rattle.c_structs.specs.Structs.{is_number, head_of, head_numbers}
 use Rattle.sweep.specs.declared.Sweep.{Sweep}
@@ -18,8 +17,3 @@ closed_number closed = cond closed (pos 1) (pos 0)
 
 unfoldable pub sweep_numbers : Sweep → List ℤ
 sweep_numbers sweep = head_numbers sweep.head ++ pos sweep.taken ∷ closed_number sweep.closed ∷ []
-
--- what an answer with a state leaves in a struct
-unfoldable pub sweep_left : List ℤ → Answer Sweep → List ℤ
-sweep_left before (gives sweep) = sweep_numbers sweep
-sweep_left before (refuses number) = before

@@ -12,7 +12,6 @@ use lib.ListN.{length, length-set, set, get_or}
 use Rattle.arithmetic.proofs.Places.{table_at, table_ext, table_of, table_set}
 use Rattle.tally.specs.Gates.{is_measured, echo_of}
 use Rattle.tally.specs.Tally.{contributes}
-use Rattle.tally.proofs.TallyTurn.{is_measured_lem}
 use Rattle.extremes.specs.Extremes.{chosen_over, chosen}
 
 module _ (ledger values : List ℕ) (choice : ℕ → ℕ → ℕ) where
@@ -21,17 +20,17 @@ module _ (ledger values : List ℕ) (choice : ℕ → ℕ → ℕ) where
   unfolding chosen_over
   passed_over k held cell e = rw (add-one, e)
 
-  pub in_its_cell : (k held : ℕ) → (get_or values k 0 ≡ 65535 → ⊥) → chosen_over ledger values choice (k + 1) held (get_or ledger k 0) ≡ choice (chosen_over ledger values choice k held (get_or ledger k 0)) (echo_of (get_or values k 0))
+  pub in_its_cell : (k held : ℕ) → is_measured (get_or values k 0) ≡ true → chosen_over ledger values choice (k + 1) held (get_or ledger k 0) ≡ choice (chosen_over ledger values choice k held (get_or ledger k 0)) (echo_of (get_or values k 0))
   unfolding chosen_over contributes
-  in_its_cell k held m = rw (add-one, eq-eqb (get_or ledger k 0) (get_or ledger k 0) refl, is_measured_lem (get_or values k 0) m)
+  in_its_cell k held m = rw (add-one, eq-eqb (get_or ledger k 0) (get_or ledger k 0) refl, m)
 
   pub in_no_other : (k held other : ℕ) → (other ≡ get_or ledger k 0 → ⊥) → chosen_over ledger values choice (k + 1) held other ≡ chosen_over ledger values choice k held other
   unfolding contributes
   in_no_other k held other r = passed_over k held other (rw (ne_eqb (get_or ledger k 0) other (λ e. r (sym e))))
 
-  pub not_unmeasured : (k held cell : ℕ) → get_or values k 0 ≡ 65535 → chosen_over ledger values choice (k + 1) held cell ≡ chosen_over ledger values choice k held cell
-  unfolding contributes is_measured
-  not_unmeasured k held cell h = passed_over k held cell (rw (eq-eqb (get_or values k 0) 65535 h) (never (eqb (get_or ledger k 0) cell)))
+  pub not_unmeasured : (k held cell : ℕ) → is_measured (get_or values k 0) ≡ false → chosen_over ledger values choice (k + 1) held cell ≡ chosen_over ledger values choice k held cell
+  unfolding contributes
+  not_unmeasured k held cell h = passed_over k held cell (rw h (never (eqb (get_or ledger k 0) cell)))
     where
       never : (t : Bool) → (t && false) ≡ false
       never true = refl
@@ -61,11 +60,11 @@ module _ {ledger values : List ℕ} {choice : ℕ → ℕ → ℕ} {k : ℕ} {he
   pub no_cell : length held ≤ get_or ledger k 0 → ChosenAfter ledger values choice (k + 1) held l
   no_cell h = nothing_chosen (λ cell i. in_no_other ledger values choice k (get_or held cell 0) cell (λ e. omega arith))
 
-  pub unmeasured : get_or values k 0 ≡ 65535 → ChosenAfter ledger values choice (k + 1) held l
+  pub unmeasured : is_measured (get_or values k 0) ≡ false → ChosenAfter ledger values choice (k + 1) held l
   unmeasured h = nothing_chosen (λ cell i. not_unmeasured ledger values choice k (get_or held cell 0) cell h)
 
   -- a measured gate of a cell
-  pub measured : {echo v : ℕ} → get_or ledger k 0 < length held → (get_or values k 0 ≡ 65535 → ⊥) → echo ≡ echo_of (get_or values k 0) → v ≡ choice (get_or l (get_or ledger k 0) 0) echo → ChosenAfter ledger values choice (k + 1) held (set l (get_or ledger k 0) v)
+  pub measured : {echo v : ℕ} → get_or ledger k 0 < length held → is_measured (get_or values k 0) ≡ true → echo ≡ echo_of (get_or values k 0) → v ≡ choice (get_or l (get_or ledger k 0) 0) echo → ChosenAfter ledger values choice (k + 1) held (set l (get_or ledger k 0) v)
   unfolding chosen
   measured {echo} {v} h m p is =
       let cell = get_or ledger k 0 in

@@ -1,8 +1,9 @@
--- The two lists that are lent for the least and the greatest value of each cell, as a record, and a contract's parameters as this record. Assumes
--- nothing.
-use Rattle.std.specs.Prelude.{List, ℕ}
+-- The two lists that are lent for the least and the greatest value of each cell, as a record, and what a contract's struct holds as this record.
+-- Assumes nothing.
+use Rattle.std.specs.Prelude.{◌≡◌, List, ℕ}
+use Rattle.std.specs.Borrow.{MutBor}
 use denote.Triple.Both.{Both}
-use Rattle.tally.specs.LentSums.{Lent}
+use Rattle.extremes.specs.declared.lists.ExtremesMut.{ExtremesMut}
 
 -- a number for each cell
 pub record Extremes : Type 0 where
@@ -12,8 +13,13 @@ pub record Extremes : Type 0 where
 abbrev pub extremes_held : List ℕ → List ℕ → Extremes
 extremes_held least greatest = record { least = least; greatest = greatest }
 
-abbrev pub lent_extremes : Lent → Lent → Both Extremes Extremes
-lent_extremes least greatest = record {
-  entry = extremes_held least.entry.now greatest.entry.now;
-  exit = extremes_held least.exit.now greatest.exit.now;
-}
+abbrev pub extremes_in : ExtremesMut → Extremes
+extremes_in extremes = extremes_held extremes.least.now extremes.greatest.now
+
+-- the same slices afterwards, so that their lender sees what they hold
+pub record KeepsExtremes (before after : ExtremesMut) : Type 0 where
+  pub least : after.least.ghost_name ≡ before.least.ghost_name
+  pub greatest : after.greatest.ghost_name ≡ before.greatest.ghost_name
+
+abbrev pub lent_extremes : Both (MutBor ExtremesMut) (MutBor ExtremesMut) → Both Extremes Extremes
+lent_extremes extremes = record { entry = extremes_in extremes.entry.now; exit = extremes_in extremes.exit.now }

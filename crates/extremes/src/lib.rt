@@ -1,9 +1,6 @@
 // The least and the greatest value of the gates of each cell.
 #![tactic(auto)]
 
-mod choice;
-mod clear;
-mod compare;
+mod lists;
 
-pub use clear::clear_extremes;
-pub use compare::compare_gates;
+pub use lists::ExtremesMut;

@@ -5,55 +5,47 @@
 // the usage line.
 #![tactic(auto)]
 
-ghost use Rattle.std.specs.Prelude.{◌≤◌, length};
+ghost use Rattle.std.specs.Prelude.{IfSome, ◌≤◌, length};
 
 use std::env::{Env, FillError};
 
 fn main(rt: HostRuntime) {
     let mut words = [0u8; 4096];
-    let n = join_arguments(&rt, &mut words);
+    // Words that do not fit give no gate, as no words at all.
+    let n = join_arguments(&rt, &mut words).unwrap_or(0);
     print_answer(&rt, &words[..n]);
 }
 
-// Puts the arguments one behind the other, each with a byte 0, and answers how many bytes that are, or 0 where they do not fit. Argument
+// Puts the arguments one behind the other, each with a byte 0, and answers how many bytes that are; none where they do not fit. Argument
 // 0 is the program's own name.
-fn join_arguments(env: &impl Env, words: &mut [u8]) -> usize
-    ensures { result ≤ length words.new }
+fn join_arguments(env: &impl Env, words: &mut [u8]) -> Option<usize>
+    ensures { IfSome result (λ n. n ≤ length words.new) }
 {
     let mut end = 0;
     for i in 1..argument_count(env) {
-        end = put_argument(env, i, words, end);
-        if end == 0 {
-            return 0;
-        }
+        end = put_argument(env, i, words, end)?;
     }
-    end
+    Some(end)
 }
 
 // How many arguments there are, the program's own name among them.
 fn argument_count(env: &impl Env) -> usize {
-    for i in 0..usize::MAX {
-        if let Err(FillError::NotPresent) = env.arg(i, &mut []) {
-            return i;
-        }
-    }
-    usize::MAX
+    (0..usize::MAX)
+        .find(|i| matches!(env.arg(*i, &mut []), Err(FillError::NotPresent)))
+        .unwrap_or(usize::MAX)
 }
 
-// Puts an argument and a byte 0 at a place. The place behind, or 0 where it does not fit.
-fn put_argument(env: &impl Env, i: usize, words: &mut [u8], at: usize) -> usize
+// Puts an argument and a byte 0 at a place. The place behind; none where it does not fit.
+fn put_argument(env: &impl Env, i: usize, words: &mut [u8], at: usize) -> Option<usize>
     requires { at ≤ length words.old }
-    ensures { result ≤ length words.new }
+    ensures { IfSome result (λ n. n ≤ length words.new) }
 {
-    let Ok(n) = env.arg(i, &mut words[at..]) else {
-        return 0;
-    };
-    let end = at + n;
+    let end = at + env.arg(i, &mut words[at..]).ok()?;
     if words.len() <= end {
-        return 0;
+        return None;
     }
     words[end] = 0;
-    end + 1
+    Some(end + 1)
 }
 
 fn print_answer(to: &impl Print, words: &[u8]) {

@@ -3,10 +3,9 @@ use mathlib.Core.Bool.{true, false}
 use mathlib.Core.List.{List}
 use mathlib.Core.Path.{◌≡◌}
 use Prim.Native.Nat.{ℕ}
-use Rattle.placement.specs.declared.gate.Placement.{Placement}
 use Rattle.limits.specs.declared.grid.Grid.{Grid}
 use Rattle.limits.specs.declared.site.Site.{Site}
-use Rattle.placement.specs.Gate.{placement_of}
+use Rattle.placement.specs.Gate.{PlaceAnswer, placement_of}
 use Rattle.grid.specs.Window.{window_of}
 use Rattle.text.specs.DecimalText.{line_of}
 use Rattle.refusal.specs.Unsigned.{unsigned32}
@@ -14,8 +13,8 @@ use Rattle.gate_words.specs.GivenWords.{number_at}
 use Rattle.gate_words.specs.GivenGate.{given, site_given, hrap_given, radolan_given}
 use Rattle.gate_text.specs.GateText.{hrap_word, radolan_word, usage_line, answer_words, answer_text, gate_text}
 
-module _ (words : List ℕ) (grid : Grid) {site : Site} {azimuth range columns : ℕ} {placement : Placement} where
-  pub answer_text_is : site ≡ site_given words → azimuth ≡ unsigned32 (number_at words 2) → range ≡ unsigned32 (number_at words 3) → columns ≡ (window_of grid).columns → placement ≡ placement_of site grid azimuth range → line_of (answer_words columns placement) ≡ answer_text words grid
+module _ (words : List ℕ) (grid : Grid) {site : Site} {azimuth range columns : ℕ} {answer : PlaceAnswer} where
+  pub answer_text_is : site ≡ site_given words → azimuth ≡ unsigned32 (number_at words 2) → range ≡ unsigned32 (number_at words 3) → columns ≡ (window_of grid).columns → answer ≡ placement_of site grid azimuth range → line_of (answer_words columns answer) ≡ answer_text words grid
   unfolding answer_text
   answer_text_is s a r c p = rw (p, c, s, a, r)
 

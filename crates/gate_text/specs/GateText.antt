@@ -1,7 +1,8 @@
 -- The line that answers words: where they give a gate, its placement, otherwise how the program is called. Assumes nothing.
-use Rattle.std.specs.Prelude.{cond, List, [], ◌∷◌, ℕ, ◌/◌, ◌%◌}
+use Rattle.std.specs.Prelude.{cond, Option, Some, None, Result, Ok, Err, List, [], ◌∷◌, ℕ, ◌/◌, ◌%◌}
 use Rattle.placement.specs.declared.gate.Placement.{Placement}
-use Rattle.placement.specs.declared.gate.Placement.TheVariants.{Inside, Outside, Refused}
+use Rattle.refusal.specs.Numbered.{number_of}
+use Rattle.refusal.specs.declared.numbered.Refusal.{Refusal}
 use Rattle.limits.specs.declared.grid.Grid.{Grid}
 use Rattle.placement.specs.Gate.{placement_of, mark_number}
 use Rattle.grid.specs.Window.{window_of}
@@ -28,18 +29,22 @@ usage_line =
     117 ∷ 115 ∷ 97 ∷ 103 ∷ 101 ∷ 58 ∷ 32 ∷ 103 ∷ 97 ∷ 116 ∷ 101 ∷ 32 ∷ 108 ∷ 97 ∷ 116 ∷ 105 ∷ 116 ∷ 117 ∷ 100 ∷ 101 ∷ 32 ∷ 108 ∷ 111 ∷ 110 ∷ 103 ∷ 105 ∷ 116 ∷ 117 ∷ 100 ∷ 101 ∷ 32 ∷ 97 ∷ 122 ∷ 105 ∷ 109 ∷ 117 ∷ 116 ∷ 104 ∷ 32 ∷ 114 ∷ 97 ∷ 110 ∷ 103 ∷ 101 ∷ 32 ∷ 40 ∷ 104 ∷ 114 ∷ 97 ∷ 112 ∷ 32 ∷ 105 ∷ 32 ∷ 106 ∷ 32 ∷ 124 ∷ 32 ∷ 114 ∷ 97 ∷ 100 ∷ 111 ∷ 108 ∷ 97 ∷ 110 ∷ 32 ∷ 120 ∷ 32 ∷ 121 ∷ 32 ∷ 115 ∷ 105 ∷ 100 ∷ 101 ∷ 41 ∷ 32 ∷ 99 ∷ 111 ∷ 108 ∷ 117 ∷ 109 ∷ 110 ∷ 115 ∷ 32 ∷ 114 ∷ 111 ∷ 119 ∷ 115 ∷ 10 ∷ []
 
 -- inside X Y COLUMN ROW CELL MARK, or outside X Y MARK, or refused NUMBER
-unfoldable pub answer_words : ℕ → Placement → List (List ℕ)
-answer_words columns (Inside cell x y mark) =
+unfoldable pub placed_words : ℕ → Option ℕ → Placement → List (List ℕ)
+placed_words columns (Some cell) placement =
     inside_word
-    ∷ signed_decimal_of x
-    ∷ signed_decimal_of y
+    ∷ signed_decimal_of placement.x
+    ∷ signed_decimal_of placement.y
     ∷ decimal_of (cell % columns)
     ∷ decimal_of (cell / columns)
     ∷ decimal_of cell
-    ∷ decimal_of (mark_number mark)
+    ∷ decimal_of (mark_number placement.mark)
     ∷ []
-answer_words columns (Outside x y mark) = outside_word ∷ signed_decimal_of x ∷ signed_decimal_of y ∷ decimal_of (mark_number mark) ∷ []
-answer_words columns (Refused number) = refused_word ∷ decimal_of number ∷ []
+placed_words columns None placement =
+    outside_word ∷ signed_decimal_of placement.x ∷ signed_decimal_of placement.y ∷ decimal_of (mark_number placement.mark) ∷ []
+
+unfoldable pub answer_words : ℕ → Result Placement Refusal → List (List ℕ)
+answer_words columns (Ok placement) = placed_words columns placement.cell placement
+answer_words columns (Err refusal) = refused_word ∷ decimal_of (number_of refusal) ∷ []
 
 module _ (words : List ℕ) where
   unfoldable pub answer_text : Grid → List ℕ

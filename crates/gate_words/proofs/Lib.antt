@@ -1,2 +1,1 @@
 pub mod GivenLaws
-pub mod GivenTests

@@ -1,8 +1,6 @@
 -- Words given one behind the other, each ended by a byte 0, and the numbers that they stand for. Assumes nothing.
-use Rattle.std.specs.Prelude.{Bool, true, false, ◌&&◌, cond, List, [], ◌∷◌, ℕ, zero, suc, ◌+◌, eqb, ℤ, pos, length, take, drop}
+use Rattle.std.specs.Prelude.{Bool, true, false, ◌&&◌, cond, is_some, unwrap_or, List, [], ◌∷◌, ℕ, zero, suc, ◌+◌, eqb, ℤ, pos, length, take, drop}
 use Rattle.arithmetic.specs.Places.{table, all_of}
-use Rattle.word_value.specs.declared.Parsed.{Parsed}
-use Rattle.word_value.specs.declared.Parsed.TheVariants.{Number, Wrong}
 use Rattle.word_value.specs.WordValue.{parsed}
 
 -- up to the first byte 0, or to the end
@@ -15,17 +13,6 @@ same_word [] [] = true
 same_word [] (b ∷ bs) = false
 same_word (a ∷ rest) [] = false
 same_word (a ∷ rest) (b ∷ bs) = eqb a b && same_word rest bs
-
--- ---- numbers
-
-unfoldable pub is_number : Parsed → Bool
-is_number (Number z) = true
-is_number Wrong = false
-
--- 0 where the word is no number
-unfoldable pub number_of : Parsed → ℤ
-number_of (Number z) = z
-number_of Wrong = pos 0
 
 -- ---- word by word, counted from 0
 
@@ -43,10 +30,11 @@ module _ (words : List ℕ) where
   are_words count = eqb (word_start count) (length words)
 
   unfoldable pub is_number_at : ℕ → Bool
-  is_number_at n = is_number (parsed (word n))
+  is_number_at n = is_some (parsed (word n))
 
+  -- 0 where the word is no number
   unfoldable pub number_at : ℕ → ℤ
-  number_at n = number_of (parsed (word n))
+  number_at n = unwrap_or (parsed (word n)) (pos 0)
 
   -- `count` words from one on are numbers
   unfoldable pub are_numbers : ℕ → ℕ → Bool

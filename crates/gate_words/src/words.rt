@@ -1,21 +1,28 @@
 // Words given one behind the other, each ended by a byte 0, counted from 0. Each function here is ours alone: at most 10 words are
 // looked for.
-ghost use Rattle.std.specs.Prelude.{◌≡◌, ◌≤◌, ◌+◌, max, length, drop};
-ghost use Rattle.gate_words.specs.GivenWords.{word_length, same_word, word_start, word};
+ghost use Rattle.std.specs.Prelude.{◌≡◌, ◌==◌, ◌≤◌, length, position, drop};
+ghost use Rattle.gate_words.specs.GivenWords.{word_length, word_start, word};
 
-// The first byte 0 from a place on, or the end.
-fn word_end(words: &[u8], start: usize) -> usize
-    ensures value { result ≡ start + word_length (drop start words.now) }
-    ensures bounded { result ≤ max start (length words.now) }
+fn first_nought(bytes: &[u8]) -> Option<usize>
+    ensures { result ≡ position (λ b. b == 0) bytes.now }
 {
-    let mut at = start;
-    while at < words.len() {
-        if words[at] == 0 {
-            return at;
-        }
-        at += 1;
-    }
-    at
+    bytes.iter().position(|b| *b == 0)
+}
+
+// How many bytes stand before the first byte 0, or before the end.
+#[tactic(auto, using(crate::proofs::GivenLaws::length_or, crate::proofs::GivenLaws::length_within))]
+fn word_length(bytes: &[u8]) -> usize
+    ensures value { result ≡ word_length bytes.now }
+    ensures bounded { result ≤ length bytes.now }
+{
+    first_nought(bytes).unwrap_or(bytes.len())
+}
+
+// The bytes from a place on; none past the end.
+fn rest(words: &[u8], start: usize) -> &[u8]
+    ensures { result.now ≡ drop start words.now }
+{
+    words.get(start..).unwrap_or(&[])
 }
 
 // Where a word begins; past the end where there are not so many.
@@ -24,10 +31,8 @@ pub fn word_start(words: &[u8], n: usize) -> usize
     ensures { result ≡ word_start words.now n }
 {
     let mut start = 0;
-    let mut k = 0;
-    while k < n {
-        start = word_end(words, start) + 1;
-        k += 1;
+    for _ in 0..n {
+        start += word_length(rest(words, start)) + 1;
     }
     start
 }
@@ -37,26 +42,6 @@ pub fn word(words: &[u8], n: usize) -> &[u8]
     requires { n ≤ 10 }
     ensures { result.now ≡ word words.now n }
 {
-    let start = word_start(words, n);
-    if words.len() < start {
-        return &words[0..0];
-    }
-    let end = word_end(words, start);
-    &words[start..end]
-}
-
-pub fn same_word(a: &[u8], b: &[u8]) -> bool
-    ensures { result ≡ same_word a.now b.now }
-{
-    if a.len() != b.len() {
-        return false;
-    }
-    let mut k = 0;
-    while k < b.len() {
-        if a[k] != b[k] {
-            return false;
-        }
-        k += 1;
-    }
-    true
+    let bytes = rest(words, word_start(words, n));
+    &bytes[..word_length(bytes)]
 }

@@ -1,19 +1,21 @@
 // The sheet of a good record within the two sizes. The lists are parts of arrays that hold the largest scan that is printed.
 #![tactic(auto)]
 
-ghost use Rattle.std.specs.Prelude.{◌≤◌};
-ghost use Rattle.text.specs.StoredText.{Stored};
+ghost use Rattle.std.specs.Prelude.{◌≤◌, ◌+◌, length};
+ghost use Rattle.text.specs.StoredText.{Appends};
 ghost use Rattle.record_sheet.specs.GoodSheet.{good_sheet};
 ghost use Rattle.record_sheet.specs.SheetRoom.{Sized};
 
 use record_sheet::cells_text;
-use scan::ScanHead;
+use scan::{ListsMut, RaysMut, ScanHead};
+use tally::CellsMut;
+use text::Text;
 
 // For our own crates: they have tested record and sizes.
-pub fn good_sheet(bytes: &[u8], head: ScanHead, page: &mut [u8; 120000]) -> usize
-    requires { Sized bytes.now head }
-    ensures upper_bound { result ≤ 120000 }
-    ensures stored { Stored page.old 0 (good_sheet bytes.now) result page.new }
+pub fn good_sheet(bytes: &[u8], head: ScanHead, page: &mut Text<'_>)
+    requires { Sized bytes.now head × (page.old.length + 120000 ≤ length page.old.buffer.now) }
+    ensures appended { Appends page.old (good_sheet bytes.now) page.new }
+    ensures bounded { page.new.length ≤ page.old.length + 120000 }
 {
     let rays = head.rays as usize;
     let gates = scan::gates_of(head);
@@ -32,17 +34,23 @@ pub fn good_sheet(bytes: &[u8], head: ScanHead, page: &mut [u8; 120000]) -> usiz
     cells_text(
         bytes,
         head,
-        &mut azimuths[..rays],
-        &mut values[..gates],
-        &mut qualities[..gates],
-        &mut ledger[..gates],
-        &mut marks[..gates],
-        &mut counts[..cells],
-        &mut quality_sums[..cells],
-        &mut value_sums[..cells],
-        &mut weighted_sums[..cells],
-        &mut means[..cells],
-        &mut cell_qualities[..cells],
+        &mut RaysMut {
+            azimuths: &mut azimuths[..rays],
+            values: &mut values[..gates],
+            qualities: &mut qualities[..gates],
+        },
+        &mut ListsMut {
+            ledger: &mut ledger[..gates],
+            marks: &mut marks[..gates],
+            counts: &mut counts[..cells],
+            quality_sums: &mut quality_sums[..cells],
+            value_sums: &mut value_sums[..cells],
+            weighted_sums: &mut weighted_sums[..cells],
+        },
+        &mut CellsMut {
+            means: &mut means[..cells],
+            qualities: &mut cell_qualities[..cells],
+        },
         page,
-    )
+    );
 }

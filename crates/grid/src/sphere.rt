@@ -12,6 +12,7 @@ pub struct Sphere {
     pub k: i64,
 }
 
+#[tactic(auto, unfolding(crate::specs::Sphere::sphere_of, crate::specs::Sphere::radolan_sphere, crate::specs::Sphere::hrap_sphere))]
 pub fn sphere_of(grid: Grid) -> Sphere
     ensures { result ≡ sphere_of grid }
 {

@@ -28,7 +28,7 @@ pub fn window_of(grid: Grid) -> Window
         Grid::Radolan(g) => Window {
             x: g.x,
             y: g.y,
-            side: g.side as u64,
+            side: u64::from(g.side),
             columns: g.columns,
             rows: g.rows,
         },
@@ -51,13 +51,11 @@ pub fn index_of(corner: i64, side: u64, x: i64) -> i64
 }
 
 // A column or row is one of the grid's.
+#[tactic(auto, unfolding(crate::specs::Window::in_span))]
 pub fn in_span(count: u32, index: i64) -> bool
     ensures { result ≡ in_span count index }
 {
-    if index < 0 {
-        return false;
-    }
-    index < count as i64
+    (0..i64::from(count)).contains(&index)
 }
 
 // row x columns + column. For our own crates: they have found both in the grid.

@@ -2,21 +2,22 @@
 use mathlib.Core.Path.{◌≡◌, refl, sym, ap, ◌∙◌}
 use mathlib.Core.Bool.{Bool, true, false}
 use mathlib.Core.List.{List}
-use Prim.Native.Nat.{ℕ, ◌+◌, ◌*◌, ◌-◌, ◌<◌, ◌≤◌}
+use Prim.Native.Nat.{ℕ, ◌+◌, ◌*◌, ◌<◌}
 use native.Mathlib.Omega.{arith}
 use denote.Triple.Both.{Both}
-use lib.ListN.{length, get_or}
-use Rattle.placement.specs.declared.survey.Survey.{Survey}
+use lib.ListN.{length}
+use Rattle.placement.specs.declared.centres.Centres.{Centres}
+use Rattle.placement.specs.SurveyTerms.{SurveyTerms}
 use Rattle.tally.specs.LentSums.{Sums}
 use Rattle.tally.specs.Tally.{added_first, added_sums}
-use Rattle.tally.specs.Width.{most32, most64, fit_widths}
+use Rattle.tally.specs.Width.{most32, most64, fit_widths, Fitting}
 use Rattle.tally.proofs.WidthLaws.{within_true, all_fit}
 use Rattle.tally.proofs.TallySplit.{added_none}
 use Rattle.take_out.proofs.TakenOut.{sums_same}
-use Rattle.ray_sums.specs.RaySums.{RayAddable, AddsAll}
-use Rattle.group_sums.specs.GroupRoom.{GroupAddable}
+use Rattle.ray_sums.specs.RaySums.{AddsAll}
 use Rattle.group_sums.proofs.GroupFits.{more_fail}
-use Rattle.group_sums.proofs.RayOfGroup.{ray_end, group_ledger, group_length, ray_of, part_of, counts_kept, quality_sums_kept, value_sums_kept, weighted_sums_kept, added_behind, ray_room}
+use Rattle.scan_ledger.proofs.RaysWritten.{ray_end}
+use Rattle.group_sums.proofs.RayOfGroup.{group_ledger, group_length, ray_of, part_of, counts_kept, quality_sums_kept, value_sums_kept, weighted_sums_kept, added_behind}
 
 -- the first n gates are added onto the sums that came in, and no count or sum passes its width
 pub record RaysSoFar (ledger values qualities : List ℕ) (n : ℕ) (sums₀ sums : Sums) : Type 0 where
@@ -28,10 +29,10 @@ pub record RaysSoFar (ledger values qualities : List ℕ) (n : ℕ) (sums₀ sum
   pub same_weighted_sums : length sums.weighted_sums ≡ length sums₀.weighted_sums
 
 module _ {ledger values qualities : List ℕ} where
-  pub none_yet : {sums : Sums} → ((cell : ℕ) → get_or sums.counts cell 0 ≤ most32) → ((cell : ℕ) → get_or sums.quality_sums cell 0 ≤ most32) → ((cell : ℕ) → get_or sums.value_sums cell 0 ≤ most64) → ((cell : ℕ) → get_or sums.weighted_sums cell 0 ≤ most64) → RaysSoFar ledger values qualities 0 sums sums
-  none_yet {sums} c q v w = record {
+  pub none_yet : {sums : Sums} → Fitting sums → RaysSoFar ledger values qualities 0 sums sums
+  none_yet {sums} fit = record {
     so_far = sym (added_none ledger values qualities sums);
-    fits = all_fit sums (within_true most32 _ (λ cell i. c cell)) (within_true most32 _ (λ cell i. q cell)) (within_true most64 _ (λ cell i. v cell)) (within_true most64 _ (λ cell i. w cell));
+    fits = all_fit sums (within_true most32 _ (λ cell i. fit.counts_fit cell)) (within_true most32 _ (λ cell i. fit.quality_sums_fit cell)) (within_true most64 _ (λ cell i. fit.value_sums_fit cell)) (within_true most64 _ (λ cell i. fit.weighted_sums_fit cell));
     same_counts = refl;
     same_quality_sums = refl;
     same_value_sums = refl;
@@ -51,23 +52,16 @@ module _ {ledger values qualities : List ℕ} where
     the_sums = sums_same ledger values qualities n sums.exit sums.entry (sym f ∙ e);
   }
 
-module _ (survey : Survey) (first spacing gates : ℕ) (azimuths values qualities : List ℕ) (ray start end : ℕ) (inside : ray < length azimuths) (starts : start ≡ ray * gates) (ends : end ≡ start + gates) where
+module _ (survey : SurveyTerms) (centres : Centres) (gates : ℕ) (azimuths values qualities : List ℕ) (ray start end : ℕ) (inside : ray < length azimuths) (starts : start ≡ ray * gates) (ends : end ≡ start + gates) where
   abbrev this_ray : List ℕ
-  this_ray = ray_of survey first spacing gates azimuths ray
+  this_ray = ray_of survey centres gates azimuths ray
 
-  module _ {sums₀ sums : Sums} (now : RaysSoFar (group_ledger survey first spacing gates azimuths) values qualities start sums₀ sums) where
-    pub added_room : {entries₀ entries : List ℕ} → GroupAddable first spacing entries₀ azimuths values qualities sums₀ → length entries₀ ≡ gates → length entries ≡ gates → RayAddable first spacing entries (part_of start end values) (part_of start end qualities) sums
-    added_room room same₀ same =
-        ray_room survey first spacing gates azimuths values qualities ray start end inside starts ends room same₀ same
-        (now.same_quality_sums ∙ room.quality_sums_length ∙ sym now.same_counts)
-        (now.same_value_sums ∙ room.value_sums_length ∙ sym now.same_counts)
-        (now.same_weighted_sums ∙ room.weighted_sums_length ∙ sym now.same_counts)
-
-    with_ray : added_sums this_ray (part_of start end values) (part_of start end qualities) sums ≡ added_first (group_ledger survey first spacing gates azimuths) values qualities end sums₀
-    with_ray = ap (added_sums this_ray (part_of start end values) (part_of start end qualities)) now.so_far ∙ added_behind survey first spacing gates azimuths values qualities ray start end inside starts ends sums₀ ∙ rw ends
+  module _ {sums₀ sums : Sums} (now : RaysSoFar (group_ledger survey centres gates azimuths) values qualities start sums₀ sums) where
+    with_ray : added_sums this_ray (part_of start end values) (part_of start end qualities) sums ≡ added_first (group_ledger survey centres gates azimuths) values qualities end sums₀
+    with_ray = ap (added_sums this_ray (part_of start end values) (part_of start end qualities)) now.so_far ∙ added_behind survey centres gates azimuths values qualities ray start end inside starts ends sums₀ ∙ rw ends
 
     module _ {next : Sums} {added : Bool} (adds : AddsAll this_ray (part_of start end values) (part_of start end qualities) (record { entry = sums; exit = next }) added) where
-      pub ray_added : added ≡ true → RaysSoFar (group_ledger survey first spacing gates azimuths) values qualities end sums₀ next
+      pub ray_added : added ≡ true → RaysSoFar (group_ledger survey centres gates azimuths) values qualities end sums₀ next
       ray_added was =
           let new : next ≡ added_sums this_ray (part_of start end values) (part_of start end qualities) sums = rw was at adds.the_sums in
           let all = new ∙ with_ray in
@@ -81,12 +75,12 @@ module _ (survey : Survey) (first spacing gates : ℕ) (azimuths values qualitie
           }
 
       -- a ray that has no room leaves the sums of the rays before it, and the whole group has none
-      pub ray_left : added ≡ false → next ≡ added_first (group_ledger survey first spacing gates azimuths) values qualities start sums₀
+      pub ray_left : added ≡ false → next ≡ added_first (group_ledger survey centres gates azimuths) values qualities start sums₀
       ray_left was = let same : next ≡ sums = rw was at adds.the_sums in same ∙ now.so_far
 
-      pub none_fit : added ≡ false → fit_widths (added_sums (group_ledger survey first spacing gates azimuths) values qualities sums₀) ≡ false
+      pub none_fit : added ≡ false → fit_widths (added_sums (group_ledger survey centres gates azimuths) values qualities sums₀) ≡ false
       unfolding added_sums
       none_fit was =
           let behind = ray_end ray (length azimuths) gates inside in
-          more_fail (group_ledger survey first spacing gates azimuths) values qualities end (length (group_ledger survey first spacing gates azimuths)) (omega (arith, group_length survey first spacing gates azimuths)) sums₀
+          more_fail (group_ledger survey centres gates azimuths) values qualities end (length (group_ledger survey centres gates azimuths)) (omega (arith, group_length survey centres gates azimuths)) sums₀
           (ap fit_widths (sym with_ray) ∙ sym adds.the_answer ∙ was)

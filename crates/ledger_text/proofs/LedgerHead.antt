@@ -6,9 +6,8 @@ use Prim.Native.Nat.{ℕ, ◌+◌, ◌*◌, ◌/◌, ◌%◌, ◌≤◌, ◌<◌
 use native.Mathlib.Nat.{mod-lt}
 use borrow.Author.Tests.{eq-eqb, ne_eqb, lt-ltb, le-ltb}
 use lib.ListN.{get_or}
-use Rattle.placement.specs.declared.gate.Placement.{Placement}
-use Rattle.placement.specs.declared.gate.Placement.TheVariants.{Inside, Outside, Refused}
-use Rattle.placement.specs.Gate.{placement_of}
+use Rattle.std.specs.Prelude.{Ok, Err}
+use Rattle.placement.specs.Gate.{PlaceAnswer, placement_of}
 use Rattle.grid.specs.Window.{window_of}
 use Rattle.refusal.proofs.RangeBounds.{range_bounds}
 use Rattle.scan.specs.declared.head.ScanHead.{ScanHead}
@@ -40,8 +39,8 @@ head_good bytes e =
 pub good_head : {head : ScanHead} (bytes : List ℕ) → head ≡ head_in bytes → head_refusal bytes ≡ 0 → GoodHead head
 good_head bytes e none = subst (λ (h : ScanHead). GoodHead h) (sym e) (head_good bytes none)
 
-module _ (bytes : List ℕ) (k : ℕ) {head : ScanHead} {azimuth value quality columns : ℕ} {placement : Placement} where
-  pub good_line_is : head ≡ head_in bytes → azimuth ≡ get_or (azimuths_in bytes) (k / head.gates) 0 → value ≡ get_or (values_in bytes) k 0 → quality ≡ get_or (qualities_in bytes) k 0 → columns ≡ (window_of head.grid).columns → placement ≡ placement_of head.site head.grid azimuth (head.first + k % head.gates * head.spacing) → line_of ((decimal_of (k / head.gates) ∷ decimal_of (k % head.gates) ∷ decimal_of azimuth ∷ decimal_of (head.first + k % head.gates * head.spacing) ∷ decimal_of value ∷ decimal_of quality ∷ []) ++ placement_words columns placement) ≡ good_line bytes k
+module _ (bytes : List ℕ) (k : ℕ) {head : ScanHead} {azimuth value quality columns : ℕ} {answer : PlaceAnswer} where
+  pub good_line_is : head ≡ head_in bytes → azimuth ≡ get_or (azimuths_in bytes) (k / head.gates) 0 → value ≡ get_or (values_in bytes) k 0 → quality ≡ get_or (qualities_in bytes) k 0 → columns ≡ (window_of head.grid).columns → answer ≡ placement_of head.site head.grid azimuth (head.first + k % head.gates * head.spacing) → line_of ((decimal_of (k / head.gates) ∷ decimal_of (k % head.gates) ∷ decimal_of azimuth ∷ decimal_of (head.first + k % head.gates * head.spacing) ∷ decimal_of value ∷ decimal_of quality ∷ []) ++ placement_words columns answer) ≡ good_line bytes k
   unfolding ray_of gate_of azimuth_of range_of gate_words good_line
   good_line_is h a v q c p = rw (p, c, v, q, a, h)
 
@@ -60,8 +59,7 @@ module _ (bytes : List ℕ) (k : ℕ) where
   line_of_gate e h = rw (eq-eqb (head_refusal bytes) 0 e, lt-ltb k (gates_of (head_in bytes)) h)
 
 -- what the record says of a gate, with a space behind each word, and where the gate lies
-pub placement_line : (front : List (List ℕ)) (columns : ℕ) (placement : Placement) → spaced front ++ line_of (placement_words columns placement) ≡ line_of (front ++ placement_words columns placement)
+pub placement_line : (front : List (List ℕ)) (columns : ℕ) (answer : PlaceAnswer) → spaced front ++ line_of (placement_words columns answer) ≡ line_of (front ++ placement_words columns answer)
 unfolding placement_words
-placement_line front columns (Inside cell x y mark) = spaced_line front _ _
-placement_line front columns (Outside x y mark) = spaced_line front _ _
-placement_line front columns (Refused number) = spaced_line front _ _
+placement_line front columns (Ok placement) = spaced_line front _ _
+placement_line front columns (Err refusal) = spaced_line front _ _

@@ -4,7 +4,7 @@ use mathlib.Core.Path.{◌≡◌, refl}
 use Prim.Native.Nat.{ℕ, zero, suc, ◌≤◌}
 use native.Mathlib.Omega.{arith}
 use borrow.Author.Tests.{le-leb}
-use Rattle.placement.specs.declared.gate.Placement.TheVariants.{Inside, Outside}
+use Rattle.std.specs.Prelude.{Some, None}
 use Rattle.limits.specs.declared.grid.Grid.{Grid}
 use Rattle.grid.specs.declared.window.Window.{Window}
 use Rattle.projection.specs.declared.position.Position.{Position}
@@ -16,9 +16,9 @@ use Rattle.refusal.specs.Checks.{first_refusal}
 use Rattle.placement.specs.GateRefusal.{gate_refusal}
 use Rattle.grid.specs.Sphere.{sphere_of}
 use Rattle.grid.specs.Window.{window_of}
-use Rattle.placement.specs.Located.{in_window, marked, located}
+use Rattle.placement.specs.Located.{in_window, cell_at, located}
 use Rattle.scan.proofs.AcceptedScan.{window_size}
-use Rattle.ledger_text.specs.PlacedColumns.{columns_there}
+use Rattle.ledger_text.specs.PlacedColumns.{cell_there, columns_there}
 
 -- of four tests that all pass, the third
 third_passed : (a b c d : Bool) → ◌≡◌ {A = ℕ} (cond a (cond b (cond c (cond d 0 7) 5) 4) 3) 0 → c ≡ true
@@ -32,13 +32,13 @@ unfolding gate_refusal first_refusal
 grid_of_lem site grid azimuth range e =
     third_passed (range_accepted range) (site_accepted site) (grid_accepted grid) (azimuth_accepted azimuth) e
 
-located_columns : (columns : ℕ) (window : Window) (at : Position) → 1 ≤ columns → columns_there columns (located window at) ≡ true
-unfolding located columns_there
-located_columns columns window at h = go (marked window at) (in_window window at) _
+located_columns : (columns : ℕ) (window : Window) (at : Position) → 1 ≤ columns → cell_there columns (located window at).cell ≡ true
+unfolding located cell_at cell_there
+located_columns columns window at h = go (in_window window at) _
   where
-    go : (mark t : Bool) (cell : ℕ) → columns_there columns (cond t (Inside cell at.x at.y mark) (Outside at.x at.y mark)) ≡ true
-    go mark true cell = le-leb 1 columns h
-    go mark false cell = refl
+    go : (t : Bool) (cell : ℕ) → cell_there columns (cond t (Some cell) None) ≡ true
+    go true cell = le-leb 1 columns h
+    go false cell = refl
 
 pub placed_columns : (site : Site) (grid : Grid) (azimuth range : ℕ) → columns_there (window_of grid).columns (placement_of site grid azimuth range) ≡ true
 unfolding placement_of unless_refused columns_there

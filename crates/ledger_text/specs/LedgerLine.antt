@@ -1,7 +1,8 @@
 -- The line of a gate: RAY GATE AZIMUTH RANGE VALUE QUALITY X Y COLUMN ROW MARK, with the word outside for column and row. Assumes nothing.
-use Rattle.std.specs.Prelude.{◌&&◌, cond, List, [], ◌∷◌, ◌++◌, ℕ, ◌+◌, ◌*◌, ◌/◌, ◌%◌, eqb, ltb, get_or}
+use Rattle.std.specs.Prelude.{◌&&◌, cond, Option, Some, None, Result, Ok, Err, List, [], ◌∷◌, ◌++◌, ℕ, ◌+◌, ◌*◌, ◌/◌, ◌%◌, eqb, ltb, get_or}
 use Rattle.placement.specs.declared.gate.Placement.{Placement}
-use Rattle.placement.specs.declared.gate.Placement.TheVariants.{Inside, Outside, Refused}
+use Rattle.refusal.specs.Numbered.{number_of}
+use Rattle.refusal.specs.declared.numbered.Refusal.{Refusal}
 use Rattle.placement.specs.Gate.{placement_of, mark_number}
 use Rattle.grid.specs.Window.{window_of}
 use Rattle.scan.specs.Scan.{gates_of}
@@ -14,12 +15,18 @@ use Rattle.text.specs.RefusedLine.{refused_word}
 unfoldable pub outside_word : List ℕ
 outside_word = 111 ∷ 117 ∷ 116 ∷ 115 ∷ 105 ∷ 100 ∷ 101 ∷ []
 
--- a cell is row x columns + column; a gate of a good record is never refused (proofs/NeverRefused.antt)
-unfoldable pub placement_words : ℕ → Placement → List (List ℕ)
-placement_words columns (Inside cell x y mark) =
-    signed_decimal_of x ∷ signed_decimal_of y ∷ decimal_of (cell % columns) ∷ decimal_of (cell / columns) ∷ decimal_of (mark_number mark) ∷ []
-placement_words columns (Outside x y mark) = signed_decimal_of x ∷ signed_decimal_of y ∷ outside_word ∷ decimal_of (mark_number mark) ∷ []
-placement_words columns (Refused number) = refused_word ∷ decimal_of number ∷ []
+-- column and row, where a cell is row x columns + column; or the word `outside`
+unfoldable pub cell_words : ℕ → Option ℕ → List (List ℕ)
+cell_words columns (Some cell) = decimal_of (cell % columns) ∷ decimal_of (cell / columns) ∷ []
+cell_words columns None = outside_word ∷ []
+
+-- a gate of a good record is never refused (proofs/NeverRefused.antt)
+unfoldable pub placement_words : ℕ → Result Placement Refusal → List (List ℕ)
+placement_words columns (Ok placement) =
+    (signed_decimal_of placement.x ∷ signed_decimal_of placement.y ∷ [])
+    ++ cell_words columns placement.cell
+    ++ decimal_of (mark_number placement.mark) ∷ []
+placement_words columns (Err refusal) = refused_word ∷ decimal_of (number_of refusal) ∷ []
 
 -- gate k of the scan is gate k mod gates of ray k div gates, with its centre at first + gate x spacing
 module _ (bytes : List ℕ) (k : ℕ) where

@@ -1,10 +1,13 @@
 -- Where a gate lies inside a grid, the grid has columns. Assumes nothing.
-use Rattle.std.specs.Prelude.{Bool, true, ℕ, leb}
+use Rattle.std.specs.Prelude.{Bool, true, Option, Some, None, Result, Ok, Err, ℕ, leb}
 use Rattle.placement.specs.declared.gate.Placement.{Placement}
-use Rattle.placement.specs.declared.gate.Placement.TheVariants.{Inside, Outside, Refused}
+use Rattle.refusal.specs.declared.numbered.Refusal.{Refusal}
 
 -- a cell has a column and a row where the grid has columns
-unfoldable pub columns_there : ℕ → Placement → Bool
-columns_there columns (Inside cell x y mark) = leb 1 columns
-columns_there columns (Outside x y mark) = true
-columns_there columns (Refused number) = true
+unfoldable pub cell_there : ℕ → Option ℕ → Bool
+cell_there columns (Some cell) = leb 1 columns
+cell_there columns None = true
+
+unfoldable pub columns_there : ℕ → Result Placement Refusal → Bool
+columns_there columns (Ok placement) = cell_there columns placement.cell
+columns_there columns (Err refusal) = true

@@ -4,6 +4,7 @@ ghost use Rattle.grid.specs.Window.{window_of};
 
 use limits::Grid;
 
+#[tactic(auto, unfolding(grid::specs::Window::window_of))]
 pub fn columns_of(grid: Grid) -> u32
     ensures { result ≡ (window_of grid).columns }
 {

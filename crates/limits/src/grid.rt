@@ -3,8 +3,6 @@ ghost use Rattle.std.specs.Prelude.{◌≡◌};
 ghost use Rattle.limits.specs.declared.grid.Grid.TheVariants.{Radolan, Hrap};
 ghost use Rattle.limits.specs.Accepted.{size_accepted, grid_accepted};
 
-use refusal::{in_range, in_signed_range};
-
 // RADOLAN: the corner in centimetres from the pole, the side of a cell, columns and rows.
 #[derive(Clone, Copy)]
 pub struct RadolanGrid {
@@ -30,6 +28,7 @@ pub enum Grid {
     Hrap(HrapGrid),
 }
 
+#[tactic(auto, unfolding(crate::specs::Accepted::grid_accepted))]
 pub fn grid_accepted(grid: Grid) -> bool
     ensures { result ≡ grid_accepted grid }
 {
@@ -39,38 +38,27 @@ pub fn grid_accepted(grid: Grid) -> bool
     }
 }
 
+#[tactic(auto, unfolding(crate::specs::Accepted::grid_accepted, refusal::specs::Checks::in_range, refusal::specs::Checks::in_signed_range))]
 fn radolan_accepted(g: RadolanGrid) -> bool
     ensures { result ≡ grid_accepted (Radolan g) }
 {
-    if !in_signed_range(-2000000000, 2000000000, g.x) {
-        return false;
-    }
-    if !in_signed_range(-2000000000, 2000000000, g.y) {
-        return false;
-    }
-    if !in_range(10000, 10000000, g.side) {
-        return false;
-    }
-    size_accepted(g.columns, g.rows)
+    (-2000000000..=2000000000).contains(&g.x)
+        && (-2000000000..=2000000000).contains(&g.y)
+        && ((10000..=10000000).contains(&g.side) && size_accepted(g.columns, g.rows))
 }
 
+#[tactic(auto, unfolding(crate::specs::Accepted::grid_accepted, refusal::specs::Checks::in_signed_range))]
 fn hrap_accepted(g: HrapGrid) -> bool
     ensures { result ≡ grid_accepted (Hrap g) }
 {
-    if !in_signed_range(-10000, 10000, g.i) {
-        return false;
-    }
-    if !in_signed_range(-10000, 10000, g.j) {
-        return false;
-    }
-    size_accepted(g.columns, g.rows)
+    (-10000..=10000).contains(&g.i)
+        && (-10000..=10000).contains(&g.j)
+        && size_accepted(g.columns, g.rows)
 }
 
+#[tactic(auto, unfolding(crate::specs::Accepted::size_accepted, refusal::specs::Checks::in_range))]
 fn size_accepted(columns: u32, rows: u32) -> bool
     ensures { result ≡ size_accepted columns rows }
 {
-    if !in_range(1, 1500, columns) {
-        return false;
-    }
-    in_range(1, 1500, rows)
+    (1..=1500).contains(&columns) && (1..=1500).contains(&rows)
 }

@@ -2,8 +2,6 @@
 ghost use Rattle.std.specs.Prelude.{◌≡◌};
 ghost use Rattle.limits.specs.Accepted.{site_accepted};
 
-use refusal::in_signed_range;
-
 // Latitude and longitude, in ten-thousandths of a degree, east positive.
 #[derive(Clone, Copy)]
 pub struct Site {
@@ -11,11 +9,9 @@ pub struct Site {
     pub longitude: i64,
 }
 
+#[tactic(auto, unfolding(crate::specs::Accepted::site_accepted, refusal::specs::Checks::in_signed_range))]
 pub fn site_accepted(site: Site) -> bool
     ensures { result ≡ site_accepted site }
 {
-    if !in_signed_range(200000, 750000, site.latitude) {
-        return false;
-    }
-    in_signed_range(-1800000, 1800000, site.longitude)
+    (200000..=750000).contains(&site.latitude) && (-1800000..=1800000).contains(&site.longitude)
 }

@@ -1,9 +1,10 @@
 -- Document 02, T-10, of one gate: its column and row beside those of its exact position. Assumes nothing.
-use mathlib.Core.Bool.{Bool, true, false, cond}
-use mathlib.Core.Path.{◌≡◌, refl, ap, ◌∙◌}
+use mathlib.Core.Bool.{true, false}
+use mathlib.Core.Path.{◌≡◌, ap}
 use Prim.Native.Nat.{ℕ, ◌≤◌}
 use lib.Dec.{lit≤}
 use lib.IntN.{◌-ℤ◌, nat_abs}
+use Rattle.std.specs.Prelude.{Ok}
 use Rattle.arithmetic.specs.Fraction.{Fraction}
 use Rattle.arithmetic.specs.Nearness.{Within}
 use Rattle.arithmetic.proofs.Test.{or_false}
@@ -13,17 +14,16 @@ use Rattle.limits.specs.declared.site.Site.{Site}
 use Rattle.grid.specs.declared.window.Window.{Window}
 use Rattle.grid.specs.Mark.{tolerance, near_line}
 use Rattle.grid.specs.Sphere.{sphere_of}
-use Rattle.grid.specs.Window.{window_of, cell_number}
+use Rattle.grid.specs.Window.{window_of}
 use Rattle.grid.proofs.ExactIndex.{index_beside, index_same}
 use Rattle.projection.specs.declared.position.Position.{Position}
 use Rattle.projection.specs.ExactPosition.{X*, Y*}
 use Rattle.projection.specs.Nearness.{WithinExact}
 use Rattle.projection.specs.Position.{position_of}
 use Rattle.projection.proofs.GateTerms.{GoodGate}
-use Rattle.placement.specs.declared.gate.Placement.TheVariants.{Inside, Outside}
 use Rattle.placement.specs.Gate.{entry_of}
-use Rattle.placement.specs.Located.{column, row, in_window, marked, located}
-use Rattle.placement.specs.ExactCell.{inside*, outside*, column*, row*, in_window*, located*, cell_of*, entry_of*, ExactUnlessMarked}
+use Rattle.placement.specs.Located.{column, row, in_window, marked, cell_at, located}
+use Rattle.placement.specs.ExactCell.{column*, row*, in_window*, located*, cell_of*, entry_of*, ExactUnlessMarked}
 use Rattle.placement.proofs.GateNear.{position_within}
 use Rattle.placement.proofs.SurveyLimits.{window_limits}
 
@@ -54,17 +54,13 @@ module _ (window : Window) (at : Position) (x y : Fraction) (least : 10000 ≤ w
     row_same = index_same window.y window.side at.y y least y-near near_no_line.1
 
     -- and so is all that they decide
-    pub located_same : located* window x y ≡ cond (in_window window at) (inside* (cell_number window.columns (row window at) (column window at))) outside*
-    unfolding located* in_window* in_window
+    pub located_same : located* window x y ≡ cell_at window at
+    unfolding located* cell_at in_window* in_window
     located_same = rw (column_same, row_same)
 
-    pub entry_same : entry_of* (located* window x y) ≡ entry_of (located window at)
-    unfolding located entry_of entry_of*
-    entry_same = ap entry_of* located_same ∙ go (in_window window at) _
-      where
-        go : (inside : Bool) (cell : ℕ) → entry_of* (cond inside (inside* cell) outside*) ≡ entry_of (cond inside (Inside cell at.x at.y (marked window at)) (Outside at.x at.y (marked window at)))
-        go true cell = refl
-        go false cell = refl
+    pub entry_same : entry_of* (located* window x y) ≡ entry_of (Ok (located window at))
+    unfolding located entry_of
+    entry_same = ap entry_of* located_same
 
 -- ---- of an accepted gate
 
@@ -76,13 +72,7 @@ module _ (site : Site) (grid : Grid) (azimuth range : ℕ) (G : GoodGate site az
   near = position_within site grid azimuth range G tolerance (lit≤ tt)
 
   -- a gate that is not marked has the cell of its exact position, or is outside in both
-  pub located_exact : ExactUnlessMarked site grid azimuth range (located (window_of grid) at)
+  pub located_exact : ExactUnlessMarked site grid azimuth range (Ok (located (window_of grid) at))
   unfolding located cell_of* ExactUnlessMarked
   located_exact =
-      let window = window_of grid in
-      go (in_window window at) (cell_number window.columns (row window at) (column window at)) (marked window at)
-      (located_same window at (X* (sphere_of grid) site azimuth range) (Y* (sphere_of grid) site azimuth range) (window_limits grid accepted).side_least near.x_within near.y_within)
-    where
-      go : (inside : Bool) (cell : ℕ) (mark : Bool) → (mark ≡ false → cell_of* site grid azimuth range ≡ cond inside (inside* cell) outside*) → ExactUnlessMarked site grid azimuth range (cond inside (Inside cell at.x at.y mark) (Outside at.x at.y mark))
-      go true cell mark same = same
-      go false cell mark same = same
+      located_same (window_of grid) at (X* (sphere_of grid) site azimuth range) (Y* (sphere_of grid) site azimuth range) (window_limits grid accepted).side_least near.x_within near.y_within

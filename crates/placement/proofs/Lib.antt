@@ -1,6 +1,5 @@
 pub mod SurveyLimits
 pub mod MarkByte
-pub mod OtherAnswers
 pub mod GateNear
 pub mod ExactCell
 pub mod GateCases

@@ -8,12 +8,12 @@ use Rattle.limits.specs.declared.grid.Grid.{Grid}
 use Rattle.limits.specs.declared.grid.Grid.TheVariants.{Radolan, Hrap}
 use Rattle.projection.specs.declared.position.RayTerms.{RayTerms}
 use Rattle.limits.specs.declared.site.Site.{Site}
-use Rattle.placement.specs.declared.survey.Survey.{Survey}
+use Rattle.placement.specs.SurveyTerms.{SurveyTerms, Surveyed}
 use Rattle.projection.specs.Arc.{arc_terms}
 use Rattle.projection.specs.Position.{position_by}
 use Rattle.limits.specs.Accepted.{site_accepted, grid_accepted}
 use Rattle.grid.specs.Sphere.{sphere_of}
-use Rattle.placement.specs.Survey.{survey_of, Surveyed}
+use Rattle.placement.specs.Survey.{survey_of}
 use Rattle.projection.specs.Terms.{RayLimits, Sound}
 use Rattle.placement.specs.CellRoom.{WindowLimits, Reachable}
 use Rattle.grid.specs.Window.{window_of}
@@ -57,7 +57,7 @@ surveyed_of site grid s g =
       window = window_limits grid g;
     }
 
-module _ (survey : Survey) (ray : RayTerms) (range : ℕ) (known : Surveyed survey) (limits : RayLimits ray) (near : range ≤ 46000000) where
+module _ (survey : SurveyTerms) (ray : RayTerms) (range : ℕ) (known : Surveyed survey) (limits : RayLimits ray) (near : range ≤ 46000000) where
   pub survey_sound : Sound survey.terms ray (arc_terms survey.sphere.radius range) survey.sphere.k
   survey_sound = sound_of _ _ survey.sphere.radius range survey.sphere.k known.site limits known.radius_least near known.k_limit
 

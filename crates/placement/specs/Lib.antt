@@ -1,7 +1,9 @@
+pub mod Centres
 pub mod GateRefusal
 pub mod Located
 pub mod CellRoom
 pub mod Gate
+pub mod SurveyTerms
 pub mod Survey
 pub mod GateNearness
 pub mod ExactCell

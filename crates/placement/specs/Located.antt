@@ -1,7 +1,6 @@
 -- Document 01, "Projection": column and row of a position; document 02, T-02: its mark; and so where a gate lies. Assumes nothing.
-use Rattle.std.specs.Prelude.{Bool, ◌&&◌, ◌||◌, cond, ℤ}
+use Rattle.std.specs.Prelude.{Bool, ◌&&◌, ◌||◌, cond, Option, Some, None, ℕ, ℤ}
 use Rattle.placement.specs.declared.gate.Placement.{Placement}
-use Rattle.placement.specs.declared.gate.Placement.TheVariants.{Inside, Outside}
 use Rattle.grid.specs.declared.window.Window.{Window}
 use Rattle.projection.specs.declared.position.Position.{Position}
 use Rattle.grid.specs.Window.{index_of, in_span, cell_number}
@@ -22,5 +21,9 @@ module _ (window : Window) (at : Position) where
   unfoldable pub marked : Bool
   marked = near_line window.x window.side at.x || near_line window.y window.side at.y
 
+  -- the cell, or none outside
+  unfoldable pub cell_at : Option ℕ
+  cell_at = cond in_window (Some (cell_number window.columns row column)) None
+
   unfoldable pub located : Placement
-  located = cond in_window (Inside (cell_number window.columns row column) at.x at.y marked) (Outside at.x at.y marked)
+  located = record { cell = cell_at; x = at.x; y = at.y; mark = marked }

@@ -1,64 +1,38 @@
 // The ledger of one ray: for each of its gates, measured or not, the cell that it goes to, and its mark.
-ghost use Rattle.std.specs.Prelude.{◌≡◌, ◌-◌};
-ghost use Rattle.std.proofs.lemmas.List.Edits.{sets};
+ghost use Rattle.std.specs.Prelude.{◌≡◌, length};
 ghost use Rattle.placement.specs.Gate.{entry_of, mark_of};
-ghost use Rattle.placement.specs.Survey.{Surveyed, RaySpan, surveyed_ray};
+ghost use Rattle.placement.specs.Survey.{RaySpan, surveyed_ray};
 
-use crate::gate::{Placement, gate_at};
+use crate::centres::Centres;
+use crate::gate::gate_at;
 use crate::survey::Survey;
 use projection::ray_terms;
 
+// Kept: document 01 and the C interface name 4,294,967,295 for a gate outside.
 const OUTSIDE: u32 = 4294967295;
 
-// A gate's mark, 1 or 0. The gates of a ray are never refused.
-fn mark_of(placement: Placement) -> u8
-    ensures { result ≡ mark_of placement }
-{
-    match placement {
-        Placement::Inside {
-            cell: _,
-            x: _,
-            y: _,
-            mark,
-        } => mark as u8,
-        Placement::Outside { x: _, y: _, mark } => mark as u8,
-        Placement::Refused(_) => 0,
-    }
-}
-
-// Writes the entries and marks of a ray's gates from place start up to place end. For our own crates: they have tested site, grid and ranges.
+// Writes the entries and marks of a ray's gates. For our own crates: they have tested site, grid and ranges.
+#[tactic(auto, using(arithmetic::proofs::Places::written_none, projection::proofs::GateTerms::ray_limits))]
 pub fn ray_ledger(
     survey: Survey,
     azimuth: u32,
-    first: u32,
-    spacing: u32,
+    centres: Centres,
     ledger: &mut [u32],
     marks: &mut [u8],
-    start: usize,
-    end: usize,
 )
-    requires { Surveyed survey × RaySpan first spacing start end ledger.old marks.old }
-    ensures entries { ledger.new ≡ sets ledger.old start (surveyed_ray entry_of survey first spacing azimuth (end - start)) }
-    ensures marks { marks.new ≡ sets marks.old start (surveyed_ray mark_of survey first spacing azimuth (end - start)) }
+    requires { RaySpan centres ledger.old marks.old }
+    ensures entries { ledger.new ≡ surveyed_ray entry_of survey centres azimuth (length ledger.old) }
+    ensures marks { marks.new ≡ surveyed_ray mark_of survey centres azimuth (length marks.old) }
 {
     let ray = ray_terms(azimuth);
-    let mut k = start;
-    while k < end {
-        let range = first + ((k - start) as u32) * spacing;
-        let placement = gate_at(survey, ray, range);
-        marks[k] = mark_of(placement);
-        let Placement::Inside {
-            cell,
-            x: _,
-            y: _,
-            mark: _,
-        } = placement
-        else {
-            ledger[k] = OUTSIDE;
-            k += 1;
+    for (gate, entry) in ledger.iter_mut().enumerate() {
+        let placement = gate_at(survey, ray, centres.centre(gate as u32));
+        // Kept: by its index. With `zip(marks.iter_mut())` the proof didn't close: nothing is known of what either list then holds.
+        marks[gate] = u8::from(placement.mark);
+        let Some(cell) = placement.cell else {
+            *entry = OUTSIDE;
             continue;
         };
-        ledger[k] = cell;
-        k += 1;
+        *entry = cell;
     }
 }

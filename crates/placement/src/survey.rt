@@ -6,15 +6,30 @@ ghost use Rattle.placement.specs.Survey.{survey_of};
 use grid::{Sphere, Window, sphere_of, window_of};
 use limits::{Grid, Site};
 use projection::{SiteTerms, site_terms};
+use std::marker::Model;
 
+// Of an accepted site and an accepted grid: its numbers lie within their limits.
 #[derive(Clone, Copy)]
 pub struct Survey {
-    pub terms: SiteTerms,
-    pub sphere: Sphere,
-    pub window: Window,
+    pub(crate) terms: SiteTerms,
+    pub(crate) sphere: Sphere,
+    pub(crate) window: Window,
+}
+
+impl Model for Survey {
+    ghost use Rattle.placement.specs.SurveyTerms.{SurveyTerms, Surveyed};
+
+    ghost Value = { SurveyTerms };
+
+    ghost view = { λ s. record { terms = s.terms; sphere = s.sphere; window = s.window } };
+
+    ghost inverse = { λ s. record { terms = s.terms; sphere = s.sphere; window = s.window } };
+
+    ghost invariant = { λ s. Surveyed (record { terms = s.terms; sphere = s.sphere; window = s.window }) };
 }
 
 // For our own crates: they have tested site and grid.
+#[tactic(auto, using(limits::proofs::Accepted::accepted_site, projection::proofs::GateTerms::good_sphere), unfolding(crate::specs::Survey::survey_of))]
 pub fn survey_of(site: Site, grid: Grid) -> Survey
     requires { (site_accepted site ≡ true) × (grid_accepted grid ≡ true) }
     ensures { result ≡ survey_of site grid }

@@ -16,7 +16,7 @@ pub fn arc_terms(radius: u64, range: u32) -> ArcTerms
     requires { (637004000 ≤ radius) × (radius ≤ 637120000) × (range ≤ 46000000) }
     ensures { result ≡ arc_terms radius range }
 {
-    let d = (range as u64) * Q / radius;
+    let d = u64::from(range) * Q / radius;
     let d2 = d * d / Q;
     let d3 = d2 * d / Q;
     let d4 = d2 * d2 / Q;

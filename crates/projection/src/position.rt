@@ -5,7 +5,7 @@ ghost use Rattle.projection.specs.Position.{site_terms, ray_terms, position_by};
 ghost use Rattle.projection.specs.Terms.{Sound};
 
 use crate::arc::ArcTerms;
-use crate::over_q::{difference_over_q, product_over_q, sum_over_q};
+use crate::over_q::over_q;
 use arithmetic::floor_div;
 use limits::Site;
 
@@ -52,7 +52,7 @@ pub fn site_terms(meridian: i64, site: Site) -> SiteTerms
 pub fn ray_terms(azimuth: u32) -> RayTerms
     ensures { result ≡ ray_terms azimuth }
 {
-    let angle = azimuth as i64;
+    let angle = i64::from(azimuth);
     RayTerms {
         sa: sine::sine(angle),
         ca: sine::cosine(angle),
@@ -64,12 +64,12 @@ pub fn position_of(s: SiteTerms, a: RayTerms, c: ArcTerms, k: i64) -> Position
     requires { Sound s a c k }
     ensures { result ≡ position_by s a c k }
 {
-    let w = product_over_q(c.sd, a.ca);
-    let e = product_over_q(c.sd, a.sa);
-    let n = sum_over_q(s.sp, c.cd, s.cp, w);
-    let m = difference_over_q(s.cp, c.cd, s.sp, w);
-    let u = sum_over_q(e, s.cl, m, s.sl);
-    let v = difference_over_q(m, s.cl, e, s.sl);
+    let w = over_q(c.sd * a.ca);
+    let e = over_q(c.sd * a.sa);
+    let n = over_q(s.sp * c.cd + s.cp * w);
+    let m = over_q(s.cp * c.cd - s.sp * w);
+    let u = over_q(e * s.cl + m * s.sl);
+    let v = over_q(m * s.cl - e * s.sl);
     let divisor = (Q + n) as u64;
     Position {
         x: floor_div(k * u, divisor),

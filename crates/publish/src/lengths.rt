@@ -1,31 +1,18 @@
 // The lengths of the lists that the publisher is lent.
 ghost use Rattle.std.specs.Prelude.{◌≡◌};
+ghost use Rattle.tally.specs.LentSums.{sums_read, cells_in};
 ghost use Rattle.publish.specs.Publication.{equally_long};
 
-#[derive(Clone, Copy)]
-pub struct PublishLengths {
-    pub counts: usize,
-    pub quality_sums: usize,
-    pub value_sums: usize,
-    pub weighted_sums: usize,
-    pub means: usize,
-    pub cell_qualities: usize,
-}
+use tally::{CellsMut, SumsRef};
 
-pub fn equally_long(given: PublishLengths) -> bool
-    ensures { result ≡ equally_long given }
+#[tactic(auto, unfolding(crate::specs::Publication::equally_long))]
+pub fn equally_long(sums: SumsRef<'_>, cells: &CellsMut<'_>) -> bool
+    ensures { result ≡ equally_long (sums_read sums.entry) (cells_in cells.now) }
 {
-    if given.quality_sums != given.counts {
-        return false;
-    }
-    if given.value_sums != given.counts {
-        return false;
-    }
-    if given.weighted_sums != given.counts {
-        return false;
-    }
-    if given.means != given.counts {
-        return false;
-    }
-    given.cell_qualities == given.counts
+    let length = sums.counts.len();
+    sums.quality_sums.len() == length
+        && sums.value_sums.len() == length
+        && sums.weighted_sums.len() == length
+        && cells.means.len() == length
+        && cells.qualities.len() == length
 }

@@ -1,42 +1,26 @@
 // The publisher: any sums come in, and the weighting asked; out come the means and qualities of the cells.
-ghost use Rattle.tally.specs.LentSums.{sums_held, lent_cells};
+ghost use Rattle.tally.specs.LentSums.{sums_read, lent_cells, KeepsCells};
 ghost use Rattle.publish.specs.Publication.{Publishes};
 
 use crate::cells::publish_cells;
-use crate::lengths::{PublishLengths, equally_long};
+use crate::lengths::equally_long;
 use limits::Weighting;
-use refusal::Outcome;
+use refusal::Refusal;
+use tally::{CellsMut, SumsRef};
 
-// Refuses lists that are not all equally long by 6, and leaves them as they came in.
+// Refuses lists that are not all equally long, and leaves them as they came in.
+#[tactic(auto, using(crate::proofs::EqualLengths::all_equal), unfolding(crate::specs::Publication::publish_refusal, refusal::specs::Checks::first_refusal, refusal::specs::Answer::answered, refusal::specs::Answer::afterwards))]
 pub fn publish(
     weighting: Weighting,
-    counts: &[u32],
-    quality_sums: &[u32],
-    value_sums: &[u64],
-    weighted_sums: &[u64],
-    means: &mut [u16],
-    cell_qualities: &mut [u8],
-) -> Outcome
-    ensures { Publishes weighting (sums_held counts.now quality_sums.now value_sums.now weighted_sums.now) (lent_cells means cell_qualities) result }
+    sums: SumsRef<'_>,
+    cells: &mut CellsMut<'_>,
+) -> Result<(), Refusal>
+    ensures published { Publishes weighting (sums_read sums.entry) (lent_cells cells) result }
+    ensures kept { KeepsCells cells.old cells.new }
 {
-    if !equally_long(PublishLengths {
-        counts: counts.len(),
-        quality_sums: quality_sums.len(),
-        value_sums: value_sums.len(),
-        weighted_sums: weighted_sums.len(),
-        means: means.len(),
-        cell_qualities: cell_qualities.len(),
-    }) {
-        return Outcome::Refused(6);
+    if !equally_long(sums, cells) {
+        return Err(Refusal::Length);
     }
-    publish_cells(
-        weighting,
-        counts,
-        quality_sums,
-        value_sums,
-        weighted_sums,
-        means,
-        cell_qualities,
-    );
-    Outcome::Done
+    publish_cells(weighting, sums, cells);
+    Ok(())
 }

@@ -1,18 +1,14 @@
--- A ray's entries in a list of their own, and what adding them needs. Assumes nothing.
+-- What adding the gates of a ray needs of its entries, and all or nothing. Assumes nothing.
 use mathlib.Core.Bool.{true, false}
 use mathlib.Core.List.{List}
-use mathlib.Core.Path.{◌≡◌, sym, ap, ◌∙◌}
-use Prim.Native.Nat.{ℕ, ◌-◌}
+use mathlib.Core.Path.{◌≡◌, sym, ◌∙◌}
+use Prim.Native.Nat.{ℕ}
 use native.Mathlib.Omega.{arith}
 use denote.Triple.Both.{Both}
 use borrow.Author.Tests.{eq-eqb, ne_eqb}
 use lib.ListN.{length, take}
-use lib.Seq.{sets, length-take-le}
-use Rattle.arithmetic.proofs.Places.{table_length}
-use Rattle.arithmetic.proofs.SetsLaws.{sets_whole}
-use Rattle.placement.specs.declared.survey.Survey.{Survey}
-use Rattle.placement.specs.Gate.{entry_of}
-use Rattle.placement.specs.Survey.{RaySpan, surveyed_ray}
+use lib.Seq.{length-take-le}
+use Rattle.placement.specs.declared.centres.Centres.{Centres}
 use Rattle.tally.specs.LentSums.{Sums}
 use Rattle.tally.specs.Tally.{added_sums}
 use Rattle.tally.specs.TallyRoom.{Addable, AddsGates}
@@ -21,38 +17,14 @@ use Rattle.take_out.specs.TakeOutRoom.{AddedBefore}
 use Rattle.take_out.proofs.TakenOut.{sums_same}
 use Rattle.ray_sums.specs.RaySums.{RayAddable, AddsAll}
 
--- ---- the entries
-
--- the list that was lent for them, as it was written
-module _ (survey : Survey) (first spacing azimuth : ℕ) (entries : List ℕ) {ledger : List ℕ} (written : ledger ≡ sets entries 0 (surveyed_ray entry_of survey first spacing azimuth (length entries - 0))) where
-  pub is_ray : ledger ≡ surveyed_ray entry_of survey first spacing azimuth (length entries)
-  unfolding surveyed_ray
-  is_ray =
-      let all : length entries - 0 ≡ length entries = omega arith in
-      written ∙ rw all (sets_whole entries _ (table_length _ (length entries)))
-
-  pub same_gates : length ledger ≡ length entries
-  unfolding surveyed_ray
-  same_gates = ap length is_ray ∙ table_length _ (length entries)
-
-module _ {first spacing : ℕ} {entries values qualities : List ℕ} {sums : Sums} (room : RayAddable first spacing entries values qualities sums) where
-  pub ray_span : {marks : List ℕ} → length marks ≡ 1000 → RaySpan first spacing 0 (length entries) entries marks
-  ray_span marks_length = record {
-    start_end = omega arith;
-    gates_most = omega (arith, room.gates_most);
-    end_most = omega arith;
-    marks_most = omega (arith, room.gates_most);
-    ranges = λ k h. let same : k - 0 ≡ k = omega arith in rw same (room.ranges k h);
-  }
-
-  pub ray_addable : {ledger : List ℕ} → length ledger ≡ length entries → Addable ledger values qualities sums
-  ray_addable e = record {
-    values_length = room.values_length ∙ sym e;
-    qualities_length = room.qualities_length ∙ sym e;
-    quality_sums_length = room.quality_sums_length;
-    value_sums_length = room.value_sums_length;
-    weighted_sums_length = room.weighted_sums_length;
-  }
+pub ray_addable : {centres : Centres} {entries values qualities : List ℕ} {sums : Sums} → RayAddable centres entries values qualities sums → {ledger : List ℕ} → length ledger ≡ length entries → Addable ledger values qualities sums
+ray_addable room e = record {
+  values_length = room.values_length ∙ sym e;
+  qualities_length = room.qualities_length ∙ sym e;
+  quality_sums_length = room.quality_sums_length;
+  value_sums_length = room.value_sums_length;
+  weighted_sums_length = room.weighted_sums_length;
+}
 
 -- ---- all or nothing
 

@@ -1,62 +1,47 @@
-// The gates of one ray, added onto the sums or taken out of them again. `entries` is room for the ray's ledger, of as many places as it has gates; its
-// marks, which no sum is made of, go into an array that is left.
+// The gates of one ray, added onto the sums or taken out of them again. `entries` is room for the ray's ledger, of as many places as it has gates.
 #![tactic(auto)]
 
 ghost use Rattle.std.specs.Prelude.{◌≡◌, length};
 ghost use Rattle.placement.specs.Gate.{entry_of};
-ghost use Rattle.placement.specs.Survey.{Surveyed, surveyed_ray};
-ghost use Rattle.tally.specs.LentSums.{sums_held, lent_sums};
+ghost use Rattle.placement.specs.Survey.{surveyed_ray};
+ghost use Rattle.tally.specs.LentSums.{KeepsSums, lent_sums, sums_in};
 ghost use Rattle.tally.specs.Tally.{added_sums};
 ghost use Rattle.take_out.specs.TakeOutRoom.{AddedBefore};
-ghost use Rattle.ray_sums.specs.RaySums.{RayAddable, AddsAll};
+ghost use Rattle.ray_sums.specs.RaySums.{AddsAll, RayAddable, RayRanges};
 
-use placement::{Survey, ray_ledger};
+use placement::{Centres, Survey, ray_ledger};
 use take_out::take_out_gates;
-use tally::add_gates;
+use tally::{Gates, SumsMut};
 
 // All of the ray's gates, or none where by them a count or sum would pass its width; says which. For our own crates: they have tested the ray.
 pub fn add_ray(
     survey: Survey,
     azimuth: u32,
-    first: u32,
-    spacing: u32,
+    centres: Centres,
     entries: &mut [u32],
     values: &[u16],
     qualities: &[u8],
-    counts: &mut [u32],
-    quality_sums: &mut [u32],
-    value_sums: &mut [u64],
-    weighted_sums: &mut [u64],
+    sums: &mut SumsMut<'_>,
 ) -> bool
-    requires { Surveyed survey × RayAddable first spacing entries.old values.now qualities.now (sums_held counts.old quality_sums.old value_sums.old weighted_sums.old) }
-    ensures { AddsAll (surveyed_ray entry_of survey first spacing azimuth (length entries.old)) values.now qualities.now (lent_sums counts quality_sums value_sums weighted_sums) result }
+    requires { RayAddable centres entries.old values.now qualities.now (sums_in sums.old) }
+    ensures kept { KeepsSums sums.old sums.new }
+    ensures added { AddsAll (surveyed_ray entry_of survey centres azimuth (length entries.old)) values.now qualities.now (lent_sums sums) result }
 {
-    let gates = entries.len();
-    let mut marks = [0u8; 1000];
-    ray_ledger(
-        survey, azimuth, first, spacing, entries, &mut marks, 0, gates,
-    );
-    let added = add_gates(
-        entries,
+    ray_entries(survey, azimuth, centres, entries);
+    let added = sums.add_gates(Gates {
+        ledger: entries,
         values,
         qualities,
-        counts,
-        quality_sums,
-        value_sums,
-        weighted_sums,
-    );
-    if added == gates {
+    });
+    if added == entries.len() {
         return true;
     }
-    take_out_gates(
-        &entries[..added],
-        &values[..added],
-        &qualities[..added],
-        counts,
-        quality_sums,
-        value_sums,
-        weighted_sums,
-    );
+    let first = Gates {
+        ledger: &entries[..added],
+        values: &values[..added],
+        qualities: &qualities[..added],
+    };
+    take_out_gates(first, sums);
     false
 }
 
@@ -64,33 +49,33 @@ pub fn add_ray(
 pub fn take_out_ray(
     survey: Survey,
     azimuth: u32,
-    first: u32,
-    spacing: u32,
+    centres: Centres,
     entries: &mut [u32],
     values: &[u16],
     qualities: &[u8],
-    counts: &mut [u32],
-    quality_sums: &mut [u32],
-    value_sums: &mut [u64],
-    weighted_sums: &mut [u64],
+    sums: &mut SumsMut<'_>,
 )
-    requires { Surveyed survey × RayAddable first spacing entries.old values.now qualities.now (sums_held counts.old quality_sums.old value_sums.old weighted_sums.old)
-        × AddedBefore (surveyed_ray entry_of survey first spacing azimuth (length entries.old)) values.now qualities.now (sums_held counts.old quality_sums.old value_sums.old weighted_sums.old) }
-    ensures { let sums = lent_sums counts quality_sums value_sums weighted_sums in
-        sums.entry ≡ added_sums (surveyed_ray entry_of survey first spacing azimuth (length entries.old)) values.now qualities.now sums.exit }
+    requires { RayAddable centres entries.old values.now qualities.now (sums_in sums.old)
+        × AddedBefore (surveyed_ray entry_of survey centres azimuth (length entries.old)) values.now qualities.now (sums_in sums.old) }
+    ensures kept { KeepsSums sums.old sums.new }
+    ensures taken_out { let held = lent_sums sums in
+        held.entry ≡ added_sums (surveyed_ray entry_of survey centres azimuth (length entries.old)) values.now qualities.now held.exit }
 {
-    let gates = entries.len();
-    let mut marks = [0u8; 1000];
-    ray_ledger(
-        survey, azimuth, first, spacing, entries, &mut marks, 0, gates,
-    );
-    take_out_gates(
-        entries,
+    ray_entries(survey, azimuth, centres, entries);
+    let gates = Gates {
+        ledger: entries,
         values,
         qualities,
-        counts,
-        quality_sums,
-        value_sums,
-        weighted_sums,
-    );
+    };
+    take_out_gates(gates, sums);
+}
+
+// The ray's entries. Its marks, which no sum is made of, go into an array that is left.
+fn ray_entries(survey: Survey, azimuth: u32, centres: Centres, entries: &mut [u32])
+    requires { RayRanges centres (length entries.old) }
+    ensures { entries.new ≡ surveyed_ray entry_of survey centres azimuth (length entries.old) }
+{
+    let mut marks = [0u8; 1000];
+    let gates = entries.len();
+    ray_ledger(survey, azimuth, centres, entries, &mut marks[..gates]);
 }

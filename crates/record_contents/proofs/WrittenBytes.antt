@@ -1,14 +1,14 @@
 -- Numbers, fields and the whole record, stored piece by piece in a buffer. Assumes nothing.
 use mathlib.Core.Path.{◌≡◌, refl, sym, ap, ◌∙◌}
 use mathlib.Core.List.{List, [], ◌∷◌}
-use Prim.Native.Nat.{ℕ, suc, ◌+◌, ◌*◌, ◌≤◌, ◌<◌}
+use Prim.Native.Nat.{ℕ, suc, ◌+◌, ◌*◌}
 use native.Mathlib.Omega.{arith}
-use lib.ListN.{length, get_or, take}
-use lib.Seq.{sets, take_all, length-take-le}
+use lib.ListN.{length}
+use lib.Seq.{sets}
 use Rattle.scan.specs.Scan.{Scan}
 use Rattle.big_endian.specs.BigEndian.{bytes_of, all_bytes_of}
 use Rattle.record_contents.specs.RecordBytes.{site_bytes, gates_bytes, grid_bytes, weighting_byte, contents_of, header_bytes, field_bytes, fields_bytes, record_of}
-use Rattle.big_endian.proofs.BigEndianLaws.{bytes_length, all_bytes_length, all_bytes_more}
+use Rattle.big_endian.proofs.BigEndianLaws.{bytes_length, all_bytes_length}
 use Rattle.record_contents.proofs.ContentLengths.{site_length, gates_length, field_length}
 use Rattle.arithmetic.proofs.SetsLaws.{sets_then}
 
@@ -29,21 +29,9 @@ field_stored a at tag content {count} l e f =
     sets_then a at (header_bytes tag (length content)) content (e ∙ ap (λ (n : ℕ). sets a at (header_bytes tag n)) (sym l))
     (ap (λ (k : ℕ). at + k) (sym (header_length tag (length content)))) f
 
--- ---- numbers stored one by one
-
-first_length : (width : ℕ) (ns : List ℕ) (k : ℕ) → k ≤ length ns → length (all_bytes_of width (take k ns)) ≡ width * k
-first_length width ns k h = all_bytes_length width (take k ns) ∙ ap (λ (n : ℕ). width * n) (length-take-le k ns h)
-
-pub numbers_more : (width : ℕ) (a : List ℕ) (start : ℕ) (ns : List ℕ) (k : ℕ) {b c : List ℕ} {place : ℕ} → k < length ns → b ≡ sets a start (all_bytes_of width (take k ns)) → place ≡ start + width * k → c ≡ sets b place (bytes_of width (get_or ns k 0)) → c ≡ sets a start (all_bytes_of width (take (k + 1) ns))
-numbers_more width a start ns k h e p f =
-    sets_then a start (all_bytes_of width (take k ns)) (bytes_of width (get_or ns k 0)) e (p ∙ ap (λ (n : ℕ). start + n) (sym (first_length width ns k (omega arith)))) f
-    ∙ ap (sets a start) (sym (all_bytes_more width ns k h))
-
--- a field of numbers, all stored
-pub numbers_stored : (width : ℕ) (a : List ℕ) (at tag : ℕ) (ns : List ℕ) (k : ℕ) {count : ℕ} {b c : List ℕ} → width * length ns ≡ count → b ≡ sets a at (header_bytes tag count) → length ns ≤ k → c ≡ sets b (at + 3) (all_bytes_of width (take k ns)) → c ≡ sets a at (field_bytes tag (all_bytes_of width ns))
-numbers_stored width a at tag ns k {count} {b} l e h f =
-    field_stored a at tag (all_bytes_of width ns) (all_bytes_length width ns ∙ l) e
-    (f ∙ ap (λ (ms : List ℕ). sets b (at + 3) (all_bytes_of width ms)) (take_all k ns h))
+-- a field of numbers behind its header
+pub numbers_stored : (width : ℕ) (a : List ℕ) (at tag : ℕ) (ns : List ℕ) {count : ℕ} {b c : List ℕ} → width * length ns ≡ count → b ≡ sets a at (header_bytes tag count) → c ≡ sets b (at + 3) (all_bytes_of width ns) → c ≡ sets a at (field_bytes tag (all_bytes_of width ns))
+numbers_stored width a at tag ns l e f = field_stored a at tag (all_bytes_of width ns) (all_bytes_length width ns ∙ l) e f
 
 -- ---- fields stored one behind the other
 

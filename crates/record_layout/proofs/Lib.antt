@@ -1,2 +1,3 @@
+pub mod FieldOrder
 pub mod LayoutSteps
 pub mod AcceptedRecord

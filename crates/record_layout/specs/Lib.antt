@@ -1,3 +1,4 @@
+pub mod Fields
 pub mod RecordPlaces
 pub mod RecordLists
 pub mod RecordRefusal

@@ -1,87 +1,85 @@
-// Where the seven fields stand, and whether the bytes are laid out so. Fields are counted from 0: field k has the tag k + 1.
+// Where the seven fields stand, and whether the bytes are laid out so.
 ghost use Rattle.std.specs.Prelude.{◌≡◌, ◌<◌, ◌≤◌, ◌^◌};
+ghost use Rattle.refusal.specs.Numbered.{refusal_in};
+ghost use Rattle.record_layout.specs.Fields.{index_of};
 ghost use Rattle.record_layout.specs.RecordPlaces.{rays_in, gates_in, grid_length, content_length, field_start, content_start};
 ghost use Rattle.record_layout.specs.RecordRefusal.{kind_accepted, weighting_accepted, content_accepted, field_refusal, layout_refusal};
 
-use big_endian::{byte_at, u16_at};
+use crate::field::Field;
+use big_endian::{Word, byte_at};
+use refusal::Refusal;
 
-// Document 01, "Refusal numbers": record cut short; tag isn't the next one; length, kind or weighting byte wrong; bytes after field 7.
-const CUT_SHORT: u32 = 11;
-
-const WRONG_TAG: u32 = 12;
-
-const WRONG_LENGTH: u32 = 13;
-
-const BYTES_AFTER: u32 = 14;
-
+#[tactic(auto, unfolding(crate::specs::RecordPlaces::rays_in))]
 pub fn rays_in(bytes: &[u8]) -> usize
     ensures value { result ≡ rays_in bytes.now }
     ensures bounded { result ≤ 65535 }
 {
-    u16_at(bytes, 14) as usize
+    usize::from(u16::read(bytes, 14))
 }
 
 // All gates of the scan.
+#[tactic(auto, unfolding(crate::specs::RecordPlaces::gates_in))]
 pub fn gates_in(bytes: &[u8]) -> usize
     ensures value { result ≡ gates_in bytes.now }
     ensures bounded { result ≤ 4294836225 }
 {
-    (u16_at(bytes, 14) as usize) * (u16_at(bytes, 16) as usize)
+    usize::from(u16::read(bytes, 14)) * usize::from(u16::read(bytes, 16))
 }
 
 // Field 3 may have 17 or 9.
+// Kept: what may not change: the record's two bytes hold the length as a number (document 01; definition `grid_length`).
+#[tactic(auto, unfolding(crate::specs::RecordPlaces::grid_length))]
 pub fn grid_length(bytes: &[u8]) -> usize
     ensures value { result ≡ grid_length bytes.now }
     ensures bounded { result ≤ 17 }
 {
-    if u16_at(bytes, 27) == 17 {
+    if u16::read(bytes, 27) == 17 {
         return 17;
     }
     9
 }
 
 // The content's length that the earlier fields imply.
-pub fn content_length(bytes: &[u8], k: usize) -> usize
-    ensures value { result ≡ content_length bytes.now k }
+#[tactic(auto, unfolding(crate::specs::RecordPlaces::content_length))]
+pub fn content_length(bytes: &[u8], field: Field) -> usize
+    ensures value { result ≡ content_length bytes.now (index_of field) }
     ensures bounded { result ≤ 8589672450 }
 {
-    match k {
-        0 => 8,
-        1 => 12,
-        2 => grid_length(bytes),
-        3 => 1,
-        4 => 4 * rays_in(bytes),
-        5 => 2 * gates_in(bytes),
-        6 => gates_in(bytes),
-        _ => 0,
+    match field {
+        Field::Site => 8,
+        Field::Gates => 12,
+        Field::Grid => grid_length(bytes),
+        Field::Weighting => 1,
+        Field::Azimuths => 4 * rays_in(bytes),
+        Field::Values => 2 * gates_in(bytes),
+        Field::Qualities => gates_in(bytes),
+        Field::End => 0,
     }
 }
 
-// The place of a field's tag; of field 7, the end of the record.
-pub fn field_start(bytes: &[u8], k: usize) -> usize
-    requires { k ≤ 7 }
-    ensures value { result ≡ field_start bytes.now k }
+// The place of a field's tag, or of the record's end.
+pub fn field_start(bytes: &[u8], field: Field) -> usize
+    ensures value { result ≡ field_start bytes.now (index_of field) }
     ensures bounded { result < 2 ^ 36 }
 {
     let mut start = 0;
-    let mut j = 0;
-    while j < k {
-        start += 3 + content_length(bytes, j);
-        j += 1;
+    for before in &Field::ALL[..field.index()] {
+        start += 3 + content_length(bytes, *before);
     }
     start
 }
 
-// For our own crates: they ask for one of the seven fields, or for the end.
-pub fn content_start(bytes: &[u8], k: usize) -> usize
-    requires { k ≤ 7 }
-    ensures value { result ≡ content_start bytes.now k }
+#[tactic(auto, unfolding(crate::specs::RecordPlaces::content_start))]
+pub fn content_start(bytes: &[u8], field: Field) -> usize
+    ensures value { result ≡ content_start bytes.now (index_of field) }
     ensures bounded { result < 2 ^ 37 }
 {
-    field_start(bytes, k) + 3
+    field_start(bytes, field) + 3
 }
 
 // Kind 1 has 17 bytes, kind 2 has 9.
+// Kept: what may not change: the record's byte holds the kind as a number (document 01; definition `kind_accepted`).
+#[tactic(auto, unfolding(crate::specs::RecordRefusal::kind_accepted))]
 fn kind_accepted(bytes: &[u8]) -> bool
     ensures { result ≡ kind_accepted bytes.now }
 {
@@ -92,62 +90,59 @@ fn kind_accepted(bytes: &[u8]) -> bool
     kind == 2
 }
 
+#[tactic(auto, unfolding(crate::specs::RecordRefusal::weighting_accepted))]
 fn weighting_accepted(bytes: &[u8]) -> bool
     ensures { result ≡ weighting_accepted bytes.now }
 {
-    byte_at(bytes, content_start(bytes, 3)) <= 1
+    byte_at(bytes, content_start(bytes, Field::Weighting)) <= 1
 }
 
-fn content_accepted(bytes: &[u8], k: usize) -> bool
-    ensures { result ≡ content_accepted bytes.now k }
+#[tactic(auto, unfolding(crate::specs::RecordRefusal::content_accepted))]
+fn content_accepted(bytes: &[u8], field: Field) -> bool
+    ensures { result ≡ content_accepted bytes.now (index_of field) }
 {
-    match k {
-        2 => kind_accepted(bytes),
-        3 => weighting_accepted(bytes),
+    match field {
+        Field::Grid => kind_accepted(bytes),
+        Field::Weighting => weighting_accepted(bytes),
         _ => true,
     }
 }
 
 // Three header bytes there, tag, length, content there, then kind and weighting byte.
-fn field_refusal(bytes: &[u8], k: usize) -> u32
-    requires { k < 7 }
-    ensures { result ≡ field_refusal bytes.now k }
+#[tactic(auto, unfolding(crate::specs::RecordRefusal::field_refusal, refusal::specs::Checks::first_refusal))]
+fn check_field(bytes: &[u8], field: Field) -> Result<(), Refusal>
+    ensures { refusal_in result ≡ field_refusal bytes.now (index_of field) }
 {
-    let start = field_start(bytes, k);
-    let content = content_start(bytes, k);
-    let length = content_length(bytes, k);
+    let start = field_start(bytes, field);
+    let content = content_start(bytes, field);
+    let length = content_length(bytes, field);
     if bytes.len() < content {
-        return CUT_SHORT;
+        return Err(Refusal::CutShort);
     }
-    if byte_at(bytes, start) as usize != k + 1 {
-        return WRONG_TAG;
+    if usize::from(byte_at(bytes, start)) != field.index() + 1 {
+        return Err(Refusal::WrongTag);
     }
-    if u16_at(bytes, start + 1) as usize != length {
-        return WRONG_LENGTH;
+    if usize::from(u16::read(bytes, start + 1)) != length {
+        return Err(Refusal::WrongField);
     }
     if bytes.len() < content + length {
-        return CUT_SHORT;
+        return Err(Refusal::CutShort);
     }
-    if !content_accepted(bytes, k) {
-        return WRONG_LENGTH;
+    if !content_accepted(bytes, field) {
+        return Err(Refusal::WrongField);
     }
-    0
+    Ok(())
 }
 
 // Field by field; after field 7, 14.
-pub fn layout_refusal(bytes: &[u8]) -> u32
-    ensures { result ≡ layout_refusal bytes.now }
+pub fn check_layout(bytes: &[u8]) -> Result<(), Refusal>
+    ensures { refusal_in result ≡ layout_refusal bytes.now }
 {
-    let mut k = 0;
-    while k < 7 {
-        let number = field_refusal(bytes, k);
-        if number != 0 {
-            return number;
-        }
-        k += 1;
+    for field in &Field::ALL {
+        check_field(bytes, *field)?;
     }
-    if bytes.len() != field_start(bytes, 7) {
-        return BYTES_AFTER;
+    if bytes.len() != field_start(bytes, Field::End) {
+        return Err(Refusal::BytesAfter);
     }
-    0
+    Ok(())
 }

@@ -2,9 +2,11 @@
 #![tactic(auto)]
 
 mod checks;
+mod field;
 mod head;
 mod layout;
 
-pub use checks::record_refusal;
+pub use checks::check_record;
+pub use field::Field;
 pub use head::head_in;
 pub use layout::{content_length, content_start, gates_in, rays_in};

@@ -1,31 +1,21 @@
--- A field's part: empty, or what stands between the field's header and its end; and where it starts. Assumes nothing.
+-- A field's part, and where it starts. Assumes nothing.
 use mathlib.Core.Bool.{Bool, true, false, ◌&&◌, cond}
 use mathlib.Core.List.{List, [], ◌∷◌}
-use mathlib.Core.Path.{◌≡◌, refl, ap, ap₂, sym, ◌∙◌}
-use Prim.Native.Nat.{ℕ, suc, ◌+◌, ◌-◌, ◌<◌, ◌≤◌}
+use mathlib.Core.Path.{◌≡◌, refl, ap, sym, ◌∙◌}
+use Prim.Native.Nat.{ℕ, suc, ◌+◌, ◌-◌, ◌≤◌, ◌<◌}
 use native.Mathlib.Omega.{arith}
-use borrow.Author.Tests.{le-leb, lt-leb, eq-eqb, ne_eqb}
+use borrow.Author.Tests.{le-leb, eq-eqb}
 use lib.ListN.{length, take, drop, get_or}
 use lib.Seq.{drop-cons}
 use Rattle.refusal.specs.Checks.{in_range}
 use Rattle.record_layout.specs.RecordPlaces.{content_length, content_start}
 use Rattle.record_layout.specs.RecordRefusal.{head_refusal}
 use Rattle.record_reader.specs.FieldPart.{part, has_part, field_part, field_place, content_place}
+use Rattle.record_layout.specs.Fields.{index_of}
+use Rattle.record_layout.specs.declared.field.Field.{Field}
 use Rattle.record_layout.proofs.AcceptedRecord.{accepted_record}
 
 -- ---- whether there is a part
-
-pub none_below : (bytes : List ℕ) (number : ℕ) → number < 1 → has_part bytes number ≡ false
-unfolding in_range
-none_below bytes number h = simp (lt-leb 1 number h)
-
-pub none_beyond : (bytes : List ℕ) (number : ℕ) → 1 ≤ number → 7 < number → has_part bytes number ≡ false
-unfolding in_range
-none_beyond bytes number h i = simp (le-leb 1 number h, lt-leb number 7 i)
-
-pub none_refused : (bytes : List ℕ) (number : ℕ) → 1 ≤ number → number ≤ 7 → (head_refusal bytes ≡ 0 → ⊥) → has_part bytes number ≡ false
-unfolding in_range
-none_refused bytes number h i wrong = simp (le-leb 1 number h, le-leb number 7 i, ne_eqb (head_refusal bytes) 0 wrong)
 
 pub part_there : (bytes : List ℕ) (number : ℕ) → 1 ≤ number → number ≤ 7 → head_refusal bytes ≡ 0 → has_part bytes number ≡ true
 unfolding in_range
@@ -33,47 +23,18 @@ part_there bytes number h i e = simp (le-leb 1 number h, le-leb number 7 i, eq-e
 
 -- ---- its bytes and its place
 
-pub no_part : (bytes : List ℕ) (number : ℕ) → has_part bytes number ≡ false → [] ≡ field_part bytes number
-unfolding field_part
-no_part bytes number e = rw e
-
-pub no_place : (bytes : List ℕ) (number : ℕ) → has_part bytes number ≡ false → 0 ≡ field_place bytes number
-unfolding field_place
-no_place bytes number e = rw e
-
 pub part_given : (bytes : List ℕ) (number : ℕ) → has_part bytes number ≡ true → part (content_start bytes (number - 1)) (content_length bytes (number - 1)) bytes ≡ field_part bytes number
 unfolding field_part
 part_given bytes number e = rw e
-
-pub place_given : (bytes : List ℕ) (number : ℕ) → has_part bytes number ≡ true → content_start bytes (number - 1) ≡ field_place bytes number
-unfolding field_place
-place_given bytes number e = rw e
 
 -- it ends in the record
 pub part_inside : (bytes : List ℕ) (number : ℕ) → 1 ≤ number → number ≤ 7 → head_refusal bytes ≡ 0 → content_start bytes (number - 1) + content_length bytes (number - 1) ≤ length bytes
 unfolding head_refusal
 part_inside bytes number h i e = ((accepted_record bytes true e).layout.field (number - 1) (omega arith)).content_there
 
--- a part by its start and its end
-pub part_between : (bytes : List ℕ) {start count : ℕ} (start' count' : ℕ) → start ≡ start' → count ≡ count' → take (start + count - start) (drop start bytes) ≡ part start' count' bytes
-unfolding part
-part_between bytes {start} {count} start' count' e f =
-    let size : start + count - start ≡ count' = omega (arith, f) in
-    ap₂ (λ (n m : ℕ). take n (drop m bytes)) size e
-
--- ---- where a field's content starts in any bytes
-
-pub content_below : (bytes : List ℕ) (number : ℕ) → number < 1 → 0 ≡ content_place bytes number
-unfolding content_place in_range
-content_below bytes number h = simp (lt-leb 1 number h)
-
-pub content_beyond : (bytes : List ℕ) (number : ℕ) → 1 ≤ number → 7 < number → 0 ≡ content_place bytes number
-unfolding content_place in_range
-content_beyond bytes number h i = simp (le-leb 1 number h, lt-leb number 7 i)
-
-pub content_given : (bytes : List ℕ) (number : ℕ) → 1 ≤ number → number ≤ 7 → content_start bytes (number - 1) ≡ content_place bytes number
-unfolding content_place in_range
-content_given bytes number h i = simp (le-leb 1 number h, le-leb number 7 i)
+pub field_inside : (bytes : List ℕ) (field : Field) → index_of field < 7 → head_refusal bytes ≡ 0 → content_start bytes (index_of field) + content_length bytes (index_of field) ≤ length bytes
+unfolding head_refusal
+field_inside bytes field h e = ((accepted_record bytes true e).layout.field (index_of field) h).content_there
 
 -- of a record that is not refused, that is where the part starts
 pub place_of_content : (bytes : List ℕ) (number : ℕ) → head_refusal bytes ≡ 0 → content_place bytes number ≡ field_place bytes number

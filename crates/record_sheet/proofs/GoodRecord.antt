@@ -14,13 +14,14 @@ use Rattle.grid.specs.Window.{window_of}
 use Rattle.refusal.proofs.RangeBounds.{range_bounds}
 use Rattle.scan.specs.declared.head.ScanHead.{ScanHead}
 use Rattle.scan.specs.Scan.{gates_of, cells_of, Scan}
-use Rattle.scan.specs.ScanRefusal.{lists_accepted, quality_accepted, lengths_of, lists_exact, refusal_for}
+use Rattle.scan.specs.ScanRefusal.{lists_accepted, quality_accepted, lists_exact, refusal_for}
 use Rattle.scan.specs.LentLists.{Lists}
 use Rattle.accepted_tally.specs.TalliedLists.{tallied_lists}
 use Rattle.scan_tally.specs.ScanTally.{Tallies}
 use Rattle.publish.specs.CellMeans.{cells_from}
 use Rattle.publish.specs.Publication.{Publishes}
-use Rattle.refusal.specs.declared.outcome.Outcome.{Outcome}
+use Rattle.std.specs.Prelude.{Result}
+use Rattle.refusal.specs.declared.numbered.Refusal.{Refusal}
 use Rattle.refusal.proofs.AnswerLaws.{filled_is}
 use Rattle.tally.specs.LentSums.{Sums, Cells}
 use Rattle.tally.specs.Tally.{tallied_sums}
@@ -29,7 +30,6 @@ use Rattle.scan_laws.specs.TallyPublished.{scan_cells}
 use Rattle.scan_laws.proofs.PlacedTotal.{placed_total}
 use Rattle.scan_laws.proofs.TallyPublished.{published_scan}
 use Rattle.scan.proofs.AcceptedScan.{AcceptedLists, AcceptedLengths, accepted_lengths, accepted_scan, exact_for_another, AcceptedNumbers, window_size}
-use Rattle.record_reader.specs.declared.reader.ReadScan.{ReadScan}
 use Rattle.big_endian.specs.BigEndian.{numbers_at}
 use Rattle.record_layout.specs.RecordPlaces.{rays_in, gates_in, head_in, azimuths_in, values_in, qualities_in, scan_in}
 use Rattle.record_layout.specs.RecordLists.{RecordLists}
@@ -74,9 +74,9 @@ unfolding lists_accepted
 lists_exact_lem head a v q d e f = rw (eq-eqb a head.rays d, eq-eqb v (gates_of head) e, eq-eqb q (gates_of head) f)
 
 module _ {bytes : List ℕ} (scan : Scan) (lists : Lists) (s : Sized bytes scan.head) (exact : lists_exact scan lists ≡ true) where
-  lengths : AcceptedLengths scan.head (lengths_of scan lists)
+  lengths : AcceptedLengths scan lists
   unfolding lists_exact
-  lengths = accepted_lengths scan.head (lengths_of scan lists) exact
+  lengths = accepted_lengths scan lists exact
 
   -- the lists that the reader fills
   abbrev to_fill : RecordLists
@@ -89,7 +89,7 @@ module _ {bytes : List ℕ} (scan : Scan) (lists : Lists) (s : Sized bytes scan.
       (lists_exact_lem (head_in bytes) _ _ _ (lengths.azimuths_length ∙ ap (λ (h : ScanHead). h.rays) s.is_head) (lengths.values_length ∙ ap gates_of s.is_head) (lengths.qualities_length ∙ ap gates_of s.is_head))
       ∙ s.accepted
 
-  pub scan_read_lem : {answer : ReadScan} {after : RecordLists} → Reads bytes (record { entry = to_fill; exit = after }) answer → record { head = scan.head; azimuths = after.azimuths; values = after.values; qualities = after.qualities } ≡ scan_in bytes
+  pub scan_read_lem : {answer : Result ScanHead Refusal} {after : RecordLists} → Reads bytes (record { entry = to_fill; exit = after }) answer → record { head = scan.head; azimuths = after.azimuths; values = after.values; qualities = after.qualities } ≡ scan_in bytes
   unfolding scan_in lists_in
   scan_read_lem r =
       let read = filled_is to_fill no_refusal r.the_lists in
@@ -102,11 +102,11 @@ module _ {bytes : List ℕ} (scan : Scan) (lists : Lists) (s : Sized bytes scan.
   unfolding scan_in refusal_for head_refusal
   not_refused = rw (exact_for_another scan (scan_in bytes) lists s.is_head own_lists exact) (accepted_record bytes true s.accepted).number
 
-  pub tallied : {given : Scan} {after : Lists} {answer : Outcome} → given ≡ scan_in bytes → Tallies given (record { entry = lists; exit = after }) answer → after ≡ tallied_lists (scan_in bytes)
+  pub tallied : {given : Scan} {after : Lists} {answer : Result (Unit {0}) Refusal} → given ≡ scan_in bytes → Tallies given (record { entry = lists; exit = after }) answer → after ≡ tallied_lists (scan_in bytes)
   tallied e r = filled_is lists not_refused (rw e at r.the_lists)
 
   -- published in the weighting that the record asks for
-  pub published : {given : Scan} {sums : Sums} {cells : Both Cells Cells} {answer : Outcome} → given ≡ scan_in bytes → ((k : ℕ) → get_or given.values k 0 ≤ 65535) → sums ≡ (tallied_lists (scan_in bytes)).sums → CellRoom scan.head cells.entry → Publishes scan.head.weighting sums cells answer → cells.exit ≡ scan_cells (head_in bytes).weighting (scan_in bytes)
+  pub published : {given : Scan} {sums : Sums} {cells : Both Cells Cells} {answer : Result (Unit {0}) Refusal} → given ≡ scan_in bytes → ((k : ℕ) → get_or given.values k 0 ≤ 65535) → sums ≡ (tallied_lists (scan_in bytes)).sums → CellRoom scan.head cells.entry → Publishes scan.head.weighting sums cells answer → cells.exit ≡ scan_cells (head_in bytes).weighting (scan_in bytes)
   unfolding scan_in
   published {cells = cells} {answer = answer} e small is room p =
       let good = accepted_scan (scan_in bytes) lists not_refused in
@@ -118,7 +118,7 @@ pub record CellsDone (bytes : List ℕ) (sums : Sums) (cells : Cells) : Type 0 w
   pub the_sums : sums ≡ (tallied_lists (scan_in bytes)).sums
   pub the_cells : cells ≡ scan_cells (head_in bytes).weighting (scan_in bytes)
 
-module _ {bytes : List ℕ} (scan : Scan) (lists : Lists) {cells : Both Cells Cells} (s : Sized bytes scan.head) (exact : lists_exact scan lists ≡ true) (room : CellRoom scan.head cells.entry) {head_answer : ReadScan} {read : RecordLists} {tally_answer : Outcome} {after : Lists} {publish_answer : Outcome} where
+module _ {bytes : List ℕ} (scan : Scan) (lists : Lists) {cells : Both Cells Cells} (s : Sized bytes scan.head) (exact : lists_exact scan lists ≡ true) (room : CellRoom scan.head cells.entry) {head_answer : Result ScanHead Refusal} {read : RecordLists} {tally_answer : Result (Unit {0}) Refusal} {after : Lists} {publish_answer : Result (Unit {0}) Refusal} where
   pub cells_done : ((k : ℕ) → get_or read.values k 0 ≤ 65535) → Reads bytes (record { entry = to_fill scan lists s exact; exit = read }) head_answer → Tallies (record { head = scan.head; azimuths = read.azimuths; values = read.values; qualities = read.qualities }) (record { entry = lists; exit = after }) tally_answer → Publishes scan.head.weighting after.sums cells publish_answer → CellsDone bytes after.sums cells.exit
   cells_done small r t p =
       let is = scan_read_lem scan lists s exact r in

@@ -3,4 +3,4 @@
 
 mod writer;
 
-pub use writer::{WrittenScan, write_scan};
+pub use writer::write_scan;

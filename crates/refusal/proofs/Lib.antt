@@ -1,4 +1,5 @@
 pub mod AnswerLaws
+pub mod NumberedLaws
 pub mod UnsignedLaws
 pub mod Then
 pub mod RangeBounds

@@ -1,34 +1,16 @@
--- A number of 32 bits, from one of any sign and size: its limits are those of the number that was given. Assumes nothing.
+-- A number of 32 bits, from one of any sign and size. Assumes nothing.
 use mathlib.Core.Bool.{Bool, true, false, ◌&&◌, cond}
 use mathlib.Core.Path.{◌≡◌, refl, sym, ◌∙◌}
 use Prim.Native.Nat.{ℕ, ◌<◌}
 use native.Mathlib.Omega.{arith}
-use borrow.Author.Tests.{ltb-true, ltb-false, lt-ltb, le-ltb, lt-leb}
-use lib.Dec.{T, ltb, leb}
-use lib.IntN.{ℤ, pos, negsuc, nat_abs}
-use lib.Signed.{lt_z, non_neg}
+use borrow.Author.Tests.{ltb-false, lt-leb}
+use lib.Dec.{ltb, leb}
+use lib.IntN.{ℤ, pos, negsuc}
 use Rattle.arithmetic.proofs.Test.{and_false}
 use Rattle.refusal.specs.Checks.{in_range, in_signed_range}
 use Rattle.refusal.specs.Unsigned.{unsigned32}
 
-pub below_zero : (z : ℤ) → lt_z z (pos 0) ≡ true → 4294967295 ≡ unsigned32 z
-unfolding unsigned32
-below_zero (pos n) e = absurd (omega (arith, ltb-true n 0 e))
-below_zero (negsuc n) e = refl
-
-pub beyond_32_bits : (z : ℤ) → lt_z (pos 4294967295) z ≡ true → 4294967295 ≡ unsigned32 z
-unfolding unsigned32
-beyond_32_bits (pos n) e = rw (le-ltb n 4294967296 (omega (arith, ltb-true 4294967295 n e)))
-beyond_32_bits (negsuc n) e = refl
-
-pub within_32_bits : (z : ℤ) → lt_z z (pos 0) ≡ false → lt_z (pos 4294967295) z ≡ false → T (non_neg z) × (nat_abs z < 4294967296) × (nat_abs z ≡ unsigned32 z)
-unfolding unsigned32
-within_32_bits (pos n) e f =
-    let h : n < 4294967296 = omega (arith, ltb-false 4294967295 n f) in
-    (tt, h, rw (lt-ltb n 4294967296 h))
-within_32_bits (negsuc n) e f = let z : ◌≡◌ {A = ℕ} 0 1 = cc in absurd (omega arith)
-
--- ---- what does not fit is refused by its rule: a limit on the number that 32 bits hold is the same limit on the number that was given
+-- What does not fit is refused by its rule: a limit on the number that 32 bits hold is the same limit on the number that was given
 
 beyond : (least most n : ℕ) → most < n → in_range least most n ≡ false
 unfolding in_range

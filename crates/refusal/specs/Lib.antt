@@ -1,4 +1,4 @@
 pub mod Checks
 pub mod Answer
-pub mod Outcome
+pub mod Numbered
 pub mod Unsigned

@@ -1,10 +1,8 @@
-// What a refusal is: checks in order, limits of a number, and what a call answers and leaves.
+// What a refusal is, what a call answers and leaves, and a number of any size where one of 32 bits is meant.
 #![tactic(auto)]
 
-mod outcome;
-mod range;
+mod numbered;
 mod unsigned;
 
-pub use outcome::Outcome;
-pub use range::{in_range, in_signed_range};
+pub use numbered::Refusal;
 pub use unsigned::unsigned32;

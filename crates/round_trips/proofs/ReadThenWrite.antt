@@ -5,14 +5,14 @@ use mathlib.Core.List.{List, []}
 use Prim.Native.Nat.{ℕ, zero, suc, ◌+◌, ◌*◌, ◌<◌, ◌≤◌}
 use native.Mathlib.Nat.{le_of_lt}
 use native.Mathlib.Omega.{arith}
-use borrow.Author.Tests.{leb-true, eqb-true, le-leb, eq-eqb}
+use borrow.Author.Tests.{leb-true, eqb-true, le-leb}
 use lib.Dec.{eqb}
 use lib.ListN.{length, get_or, length-append}
 use Rattle.arithmetic.specs.Places.{sum_to}
 use Rattle.refusal.specs.Checks.{first_refusal}
 use Rattle.scan.specs.Scan.{gates_of}
 use Rattle.scan.specs.ScanRefusal.{given_exact}
-use Rattle.scan.proofs.AcceptedScan.{by_last_list}
+use Rattle.scan.proofs.AcceptedScan.{lists_pass}
 use Rattle.big_endian.specs.BigEndian.{bytes_of, number_at}
 use Rattle.record_contents.specs.RecordBytes.{site_bytes, gates_bytes, grid_bytes, weighting_byte, contents_of, field_bytes, record_of}
 use Rattle.record_layout.specs.RecordPlaces.{weighting_of, grid_length, rays_in, gates_in, content_length, field_start, content_start, site_in, grid_in, head_in, azimuths_in, values_in, qualities_in, scan_in}
@@ -179,7 +179,11 @@ gates_most bytes small field =
 lists_again : (bytes : List ℕ) → given_exact (scan_in bytes) ≡ true
 unfolding given_exact scan_in azimuths_in values_in qualities_in rays_in gates_in head_in gates_of
 lists_again bytes =
-    sym (by_last_list (head_in bytes) _ _ _ (numbers_length 4 bytes _ _) (numbers_length 2 bytes _ _)) ∙ eq-eqb _ _ (numbers_length 1 bytes _ _)
+    lists_pass (head_in bytes) _ _ _ (record {
+      azimuths_length = numbers_length 4 bytes _ _;
+      values_length = numbers_length 2 bytes _ _;
+      qualities_length = numbers_length 1 bytes _ _;
+    })
 
 written_again : (bytes : List ℕ) (room : ℕ) → ((k : ℕ) → get_or bytes k 0 < 256) → head_refusal bytes ≡ 0 → length bytes ≤ room → write_refusal (scan_in bytes) room ≡ 0
 unfolding head_refusal write_refusal first_refusal scan_in

@@ -5,16 +5,15 @@ use Prim.Native.Nat.{ℕ, ◌<◌, ◌≤◌}
 use denote.Triple.Both.{Both}
 use lib.ListN.{length, get_or, take, drop}
 use lib.Seq.{take-append_seam}
+use Rattle.std.specs.Prelude.{Result, Ok}
 use Rattle.refusal.specs.Answer.{gives}
+use Rattle.refusal.specs.Numbered.{answer_of}
+use Rattle.refusal.specs.declared.numbered.Refusal.{Refusal}
 use Rattle.refusal.proofs.AnswerLaws.{given_is, is_given, filled_is}
 use Rattle.scan.specs.declared.head.ScanHead.{ScanHead}
 use Rattle.scan.specs.Scan.{Scan}
-use Rattle.record_reader.specs.declared.reader.ReadScan.{ReadScan}
-use Rattle.record_reader.specs.declared.reader.ReadScan.TheVariants as read
-use Rattle.record_writer.specs.declared.writer.WrittenScan.{WrittenScan}
-use Rattle.record_writer.specs.declared.writer.WrittenScan.TheVariants as written
-use Rattle.record_reader.specs.RecordRead.{read_answer, lists_in, Reads}
-use Rattle.record_writer.specs.RecordWritten.{written_answer, buffer_with, Writes}
+use Rattle.record_reader.specs.RecordRead.{lists_in, Reads}
+use Rattle.record_writer.specs.RecordWritten.{buffer_with, Writes}
 use Rattle.record_contents.specs.RecordBytes.{record_of}
 use Rattle.record_layout.specs.RecordLists.{RecordLists}
 use Rattle.record_layout.specs.RecordPlaces.{head_in, scan_in}
@@ -41,13 +40,13 @@ pub record Fits (scan : Scan) (lists : RecordLists) : Type 0 where
   pub qualities_length : length lists.qualities ≡ length scan.qualities
 
 -- the reader answers the scan's head and leaves the scan's lists
-pub record SameScan (scan : Scan) (answer : ReadScan) (lists : RecordLists) : Type 0 where
-  pub same_head : read_answer answer ≡ gives scan.head
+pub record SameScan (scan : Scan) (answer : Result ScanHead Refusal) (lists : RecordLists) : Type 0 where
+  pub same_head : answer_of answer ≡ gives scan.head
   pub same_scan : scan_read scan.head lists ≡ scan
 
 -- what `write_scan` has written, `read_scan` reads back, whatever stood in the lists that are lent to it
-pub written_is_read : (scan : Scan) (buffer : Both (List ℕ) (List ℕ)) (n : ℕ) → ((k : ℕ) → get_or scan.values k 0 < 65536) → Writes scan buffer (written.Length n) → (lists : Both RecordLists RecordLists) → Fits scan lists.entry → (answer : ReadScan) → Reads (take n buffer.exit) lists answer → SameScan scan answer lists.exit
-unfolding written_answer buffer_with
+pub written_is_read : (scan : Scan) (buffer : Both (List ℕ) (List ℕ)) (n : ℕ) → ((k : ℕ) → get_or scan.values k 0 < 65536) → Writes scan buffer (Ok n) → (lists : Both RecordLists RecordLists) → Fits scan lists.entry → (answer : Result ScanHead Refusal) → Reads (take n buffer.exit) lists answer → SameScan scan answer lists.exit
+unfolding buffer_with
 written_is_read scan buffer n small writing lists fits answer reading =
     let bytes = record_of scan in
     let known = given_is (write_refusal scan (length buffer.entry)) writing.the_answer in
@@ -68,13 +67,13 @@ written_is_read scan buffer n small writing lists fits answer reading =
 
 -- ---- read and written
 
-pub record SameBytes (bytes : List ℕ) (buffer : Both (List ℕ) (List ℕ)) (answer : WrittenScan) : Type 0 where
-  pub same_length : written_answer answer ≡ gives (length bytes)
+pub record SameBytes (bytes : List ℕ) (buffer : Both (List ℕ) (List ℕ)) (answer : Result ℕ Refusal) : Type 0 where
+  pub same_length : answer_of answer ≡ gives (length bytes)
   pub same_bytes : buffer.exit ≡ bytes ++ drop (length bytes) buffer.entry
 
 -- what `read_scan` has read, `write_scan` writes again as the same bytes into every buffer that has room for them
-pub read_is_written : (bytes : List ℕ) → ((k : ℕ) → get_or bytes k 0 < 256) → (lists : Both RecordLists RecordLists) (head : ScanHead) → Reads bytes lists (read.Head head) → (buffer : Both (List ℕ) (List ℕ)) → length bytes ≤ length buffer.entry → (answer : WrittenScan) → Writes (scan_read head lists.exit) buffer answer → SameBytes bytes buffer answer
-unfolding read_answer buffer_with
+pub read_is_written : (bytes : List ℕ) → ((k : ℕ) → get_or bytes k 0 < 256) → (lists : Both RecordLists RecordLists) (head : ScanHead) → Reads bytes lists (Ok head) → (buffer : Both (List ℕ) (List ℕ)) → length bytes ≤ length buffer.entry → (answer : Result ℕ Refusal) → Writes (scan_read head lists.exit) buffer answer → SameBytes bytes buffer answer
+unfolding buffer_with
 read_is_written bytes small lists head reading buffer room answer writing =
     let known = given_is (read_refusal bytes lists.entry) reading.the_answer in
     let back = read_then_write bytes small (read_accepted bytes lists.entry known.0) in

@@ -1,6 +1,6 @@
 -- What is accepted of a scan, as bounds of its numbers; and a scan that is not refused is accepted. Assumes nothing.
-use mathlib.Core.Path.{◌≡◌, refl, sym, ap, ◌∙◌}
-use mathlib.Core.Bool.{Bool, true, false, ◌&&◌}
+use mathlib.Core.Path.{◌≡◌, ap, ◌∙◌}
+use mathlib.Core.Bool.{Bool, true, ◌&&◌}
 use Prim.Native.Nat.{ℕ, ◌≤◌}
 use native.Mathlib.Nat.{mul-le-mul}
 use native.Mathlib.Omega.{arith}
@@ -16,11 +16,10 @@ use Rattle.limits.specs.Accepted.{azimuth_accepted, site_accepted, grid_accepted
 use Rattle.grid.specs.Window.{window_of}
 use Rattle.limits.proofs.Accepted.{AcceptedSize, accepted_radolan, accepted_hrap}
 use Rattle.refusal.proofs.RangeBounds.{range_bounds}
-use Rattle.scan.specs.declared.lengths.Lengths.{Lengths}
 use Rattle.scan.specs.declared.head.ScanHead.{ScanHead}
 use Rattle.scan.specs.LentLists.{Lists}
 use Rattle.scan.specs.Scan.{Scan, gates_of, cells_of}
-use Rattle.scan.specs.ScanRefusal.{centres_accepted, quality_accepted, lists_accepted, lengths_accepted, lengths_of, lists_exact, scan_number, scan_refusal, refusal_for}
+use Rattle.scan.specs.ScanRefusal.{centres_accepted, quality_accepted, lists_accepted, given_exact, lists_exact, scan_number, scan_refusal, refusal_for}
 use Rattle.refusal.proofs.CheckLaws.{passed}
 
 -- ---- the grid's size
@@ -38,17 +37,6 @@ cells_most head accepted =
     omega (arith, mul-le-mul size.columns_most size.rows_most)
 
 -- ---- the lengths
-
-pub record AcceptedLengths (head : ScanHead) (given : Lengths) : Type 0 where
-  pub azimuths_length : given.azimuths ≡ head.rays
-  pub values_length : given.values ≡ gates_of head
-  pub qualities_length : given.qualities ≡ gates_of head
-  pub ledger_length : given.ledger ≡ gates_of head
-  pub marks_length : given.marks ≡ gates_of head
-  pub counts_length : given.counts ≡ cells_of head
-  pub quality_sums_length : given.quality_sums ≡ cells_of head
-  pub value_sums_length : given.value_sums ≡ cells_of head
-  pub weighted_sums_length : given.weighted_sums ≡ cells_of head
 
 -- the last of several tests, and those before it
 last_equal : (before : Bool) (a b : ℕ) → (before && eqb a b) ≡ true → (before ≡ true) × (a ≡ b)
@@ -73,31 +61,37 @@ accepted_lists head azimuths values qualities e =
       qualities_length = last.1;
     }
 
-pub refused_lists : (head : ScanHead) (azimuths values qualities : ℕ) → (AcceptedLists head azimuths values qualities → ⊥) → false ≡ lists_accepted head azimuths values qualities
-refused_lists head azimuths values qualities wrong = go (lists_accepted head azimuths values qualities) refl
-  where
-    go : (t : Bool) → lists_accepted head azimuths values qualities ≡ t → false ≡ t
-    go true e = absurd (wrong (accepted_lists head azimuths values qualities e))
-    go false e = refl
-
-pub by_last_list : (head : ScanHead) (azimuths values qualities : ℕ) → azimuths ≡ head.rays → values ≡ gates_of head → eqb qualities (gates_of head) ≡ lists_accepted head azimuths values qualities
+pub lists_pass : (head : ScanHead) (azimuths values qualities : ℕ) → AcceptedLists head azimuths values qualities → lists_accepted head azimuths values qualities ≡ true
 unfolding lists_accepted
-by_last_list head azimuths values qualities a v = simp (eq-eqb _ _ a, eq-eqb _ _ v)
+lists_pass head azimuths values qualities known =
+    rw (eq-eqb _ _ known.azimuths_length, eq-eqb _ _ known.values_length, eq-eqb _ _ known.qualities_length)
 
-pub accepted_lengths : (head : ScanHead) (given : Lengths) → lengths_accepted head given ≡ true → AcceptedLengths head given
-unfolding lengths_accepted
-accepted_lengths head given e =
-    let weighted-sums = last_equal _ given.weighted_sums (cells_of head) e in
-    let value-sums = last_equal _ given.value_sums (cells_of head) weighted-sums.0 in
-    let quality-sums = last_equal _ given.quality_sums (cells_of head) value-sums.0 in
-    let counts = last_equal _ given.counts (cells_of head) quality-sums.0 in
-    let marks = last_equal _ given.marks (gates_of head) counts.0 in
-    let ledger = last_equal _ given.ledger (gates_of head) marks.0 in
-    let lists = accepted_lists head given.azimuths given.values given.qualities ledger.0 in
+-- of a scan, and those that are lent for it
+pub record AcceptedLengths (scan : Scan) (lists : Lists) : Type 0 where
+  pub azimuths_length : length scan.azimuths ≡ scan.head.rays
+  pub values_length : length scan.values ≡ gates_of scan.head
+  pub qualities_length : length scan.qualities ≡ gates_of scan.head
+  pub ledger_length : length lists.ledger ≡ gates_of scan.head
+  pub marks_length : length lists.marks ≡ gates_of scan.head
+  pub counts_length : length lists.sums.counts ≡ cells_of scan.head
+  pub quality_sums_length : length lists.sums.quality_sums ≡ cells_of scan.head
+  pub value_sums_length : length lists.sums.value_sums ≡ cells_of scan.head
+  pub weighted_sums_length : length lists.sums.weighted_sums ≡ cells_of scan.head
+
+pub accepted_lengths : (scan : Scan) (lists : Lists) → lists_exact scan lists ≡ true → AcceptedLengths scan lists
+unfolding lists_exact given_exact
+accepted_lengths scan lists e =
+    let weighted-sums = last_equal _ _ _ e in
+    let value-sums = last_equal _ _ _ weighted-sums.0 in
+    let quality-sums = last_equal _ _ _ value-sums.0 in
+    let counts = last_equal _ _ _ quality-sums.0 in
+    let marks = last_equal _ _ _ counts.0 in
+    let ledger = last_equal _ _ _ marks.0 in
+    let own = accepted_lists scan.head (length scan.azimuths) (length scan.values) (length scan.qualities) ledger.0 in
     record {
-      azimuths_length = lists.azimuths_length;
-      values_length = lists.values_length;
-      qualities_length = lists.qualities_length;
+      azimuths_length = own.azimuths_length;
+      values_length = own.values_length;
+      qualities_length = own.qualities_length;
       ledger_length = ledger.1;
       marks_length = marks.1;
       counts_length = counts.1;
@@ -106,37 +100,18 @@ accepted_lengths head given e =
       weighted_sums_length = weighted-sums.1;
     }
 
-pub refused_lengths : (head : ScanHead) (given : Lengths) → (AcceptedLengths head given → ⊥) → false ≡ lengths_accepted head given
-refused_lengths head given wrong = go (lengths_accepted head given) refl
-  where
-    go : (t : Bool) → lengths_accepted head given ≡ t → false ≡ t
-    go true e = absurd (wrong (accepted_lengths head given e))
-    go false e = refl
-
-pub refused_by_lists : (head : ScanHead) (given : Lengths) → lists_accepted head given.azimuths given.values given.qualities ≡ false → false ≡ lengths_accepted head given
-unfolding lengths_accepted
-refused_by_lists head given e = simp e
-
--- where the other lengths are right, the last one decides
-pub by_last_length : (head : ScanHead) (given : Lengths) → lists_accepted head given.azimuths given.values given.qualities ≡ true → given.ledger ≡ gates_of head → given.marks ≡ gates_of head → given.counts ≡ cells_of head → given.quality_sums ≡ cells_of head → given.value_sums ≡ cells_of head → eqb given.weighted_sums (cells_of head) ≡ lengths_accepted head given
-unfolding lengths_accepted
-by_last_length head given lists ledger marks counts quality-sums value-sums =
-    simp (lists, eq-eqb _ _ ledger, eq-eqb _ _ marks, eq-eqb _ _ counts, eq-eqb _ _ quality-sums, eq-eqb _ _ value-sums)
-
-pub lengths_exact : (head : ScanHead) (given : Lengths) → AcceptedLengths head given → lengths_accepted head given ≡ true
-lengths_exact head given known =
-    let lists = sym (by_last_list head given.azimuths given.values given.qualities known.azimuths_length known.values_length) ∙ eq-eqb _ _ known.qualities_length in
-    sym (by_last_length head given lists known.ledger_length known.marks_length known.counts_length known.quality_sums_length known.value_sums_length)
-    ∙ eq-eqb _ _ known.weighted_sums_length
+pub lengths_exact : (scan : Scan) (lists : Lists) → AcceptedLengths scan lists → lists_exact scan lists ≡ true
+unfolding lists_exact given_exact
+lengths_exact scan lists known =
+    rw (lists_pass scan.head _ _ _ (record { azimuths_length = known.azimuths_length; values_length = known.values_length; qualities_length = known.qualities_length }), eq-eqb _ _ known.ledger_length, eq-eqb _ _ known.marks_length, eq-eqb _ _ known.counts_length, eq-eqb _ _ known.quality_sums_length, eq-eqb _ _ known.value_sums_length, eq-eqb _ _ known.weighted_sums_length)
 
 -- lent lists that are exact for one scan are so for another with the same head, whose own lists are exact
 pub exact_for_another : (scan other : Scan) (lists : Lists) → scan.head ≡ other.head → AcceptedLists other.head (length other.azimuths) (length other.values) (length other.qualities) → lists_exact scan lists ≡ true → lists_exact other lists ≡ true
-unfolding lists_exact
 exact_for_another scan other lists same own exact =
-    let known = accepted_lengths scan.head (lengths_of scan lists) exact in
+    let known = accepted_lengths scan lists exact in
     let gates = ap gates_of same in
     let cells = ap cells_of same in
-    lengths_exact other.head (lengths_of other lists) (record {
+    lengths_exact other lists (record {
       azimuths_length = own.azimuths_length;
       values_length = own.values_length;
       qualities_length = own.qualities_length;
@@ -189,12 +164,12 @@ pub record AcceptedScan (scan : Scan) (lists : Lists) : Type 0 where
   pub centres : centres_accepted scan.head.gates scan.head.first scan.head.spacing ≡ true
   pub site : site_accepted scan.head.site ≡ true
   pub grid : grid_accepted scan.head.grid ≡ true
-  pub lengths : AcceptedLengths scan.head (lengths_of scan lists)
+  pub lengths : AcceptedLengths scan lists
   pub azimuths_good : all_of azimuth_accepted scan.azimuths ≡ true
   pub qualities_good : all_of quality_accepted scan.qualities ≡ true
 
 pub accepted_scan : (scan : Scan) (lists : Lists) → refusal_for scan lists ≡ 0 → AcceptedScan scan lists
-unfolding refusal_for scan_refusal lists_exact
+unfolding refusal_for scan_refusal
 accepted_scan scan lists e =
     let numbers = accepted_numbers scan.head _ _ _ e in
     let gates-bounds = range_bounds 1 1000 scan.head.gates numbers.gates_accepted in
@@ -205,7 +180,7 @@ accepted_scan scan lists e =
       centres = numbers.centres_pass;
       site = numbers.site_passes;
       grid = numbers.grid_passes;
-      lengths = accepted_lengths scan.head (lengths_of scan lists) numbers.lengths_pass;
+      lengths = accepted_lengths scan lists numbers.lengths_pass;
       azimuths_good = numbers.azimuths_accepted;
       qualities_good = numbers.qualities_accepted;
     }

@@ -1,2 +1,3 @@
 pub mod AcceptedScan
+pub mod AllPass
 pub mod RayLaws

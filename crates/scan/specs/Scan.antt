@@ -2,6 +2,7 @@
 use Rattle.std.specs.Prelude.{List, ℕ, ◌*◌}
 use Rattle.grid.specs.Window.{window_of}
 use Rattle.scan.specs.declared.head.ScanHead.{ScanHead}
+use Rattle.scan.specs.declared.lists.Rays.{Rays}
 use Rattle.scan.specs.Rays.{Ray, regular_rays}
 
 -- an azimuth for each ray; a value and a quality for each gate, ray by ray
@@ -13,6 +14,10 @@ pub record Scan : Type 0 where
 
 abbrev pub scan_held : ScanHead → List ℕ → List ℕ → List ℕ → Scan
 scan_held head azimuths values qualities = record { head = head; azimuths = azimuths; values = values; qualities = qualities }
+
+-- a scan whose lists these slices are
+abbrev pub scan_of : ScanHead → Rays → Scan
+scan_of head rays = scan_held head rays.azimuths.now rays.values.now rays.qualities.now
 
 unfoldable pub rays_of : Scan → List Ray
 rays_of scan = regular_rays scan.head.gates scan.azimuths

@@ -4,7 +4,6 @@ use Rattle.arithmetic.specs.Places.{all_of}
 use Rattle.refusal.specs.Checks.{in_range, ◌unless◌, first_refusal}
 use Rattle.limits.specs.Accepted.{azimuth_accepted, site_accepted, grid_accepted}
 use Rattle.scan.specs.declared.head.ScanHead.{ScanHead}
-use Rattle.scan.specs.declared.lengths.Lengths.{Lengths}
 use Rattle.scan.specs.LentLists.{Lists}
 use Rattle.scan.specs.Scan.{Scan, gates_of, cells_of}
 
@@ -27,31 +26,15 @@ unfoldable pub given_exact : Scan → Bool
 given_exact scan = lists_accepted scan.head (length scan.azimuths) (length scan.values) (length scan.qualities)
 
 -- of all lists: ledger and marks rays x gates too; each cell list columns x rows
-unfoldable pub lengths_accepted : ScanHead → Lengths → Bool
-lengths_accepted head given =
-    lists_accepted head given.azimuths given.values given.qualities
-    && eqb given.ledger (gates_of head)
-    && eqb given.marks (gates_of head)
-    && eqb given.counts (cells_of head)
-    && eqb given.quality_sums (cells_of head)
-    && eqb given.value_sums (cells_of head)
-    && eqb given.weighted_sums (cells_of head)
-
-abbrev pub lengths_of : Scan → Lists → Lengths
-lengths_of scan lists = record {
-  azimuths = length scan.azimuths;
-  values = length scan.values;
-  qualities = length scan.qualities;
-  ledger = length lists.ledger;
-  marks = length lists.marks;
-  counts = length lists.sums.counts;
-  quality_sums = length lists.sums.quality_sums;
-  value_sums = length lists.sums.value_sums;
-  weighted_sums = length lists.sums.weighted_sums;
-}
-
 unfoldable pub lists_exact : Scan → Lists → Bool
-lists_exact scan lists = lengths_accepted scan.head (lengths_of scan lists)
+lists_exact scan lists =
+    given_exact scan
+    && eqb (length lists.ledger) (gates_of scan.head)
+    && eqb (length lists.marks) (gates_of scan.head)
+    && eqb (length lists.sums.counts) (cells_of scan.head)
+    && eqb (length lists.sums.quality_sums) (cells_of scan.head)
+    && eqb (length lists.sums.value_sums) (cells_of scan.head)
+    && eqb (length lists.sums.weighted_sums) (cells_of scan.head)
 
 -- ---- which number is given
 

@@ -23,6 +23,7 @@ fn product(a: u32, b: u32) -> usize
 }
 
 // Rays x gates.
+#[tactic(auto, unfolding(crate::specs::Scan::gates_of))]
 pub fn gates_of(head: ScanHead) -> usize
     ensures { result ≡ gates_of head }
 {
@@ -30,6 +31,7 @@ pub fn gates_of(head: ScanHead) -> usize
 }
 
 // Columns x rows.
+#[tactic(auto, unfolding(crate::specs::Scan::cells_of, grid::specs::Window::window_of))]
 pub fn cells_of(head: ScanHead) -> usize
     ensures { result ≡ cells_of head }
 {

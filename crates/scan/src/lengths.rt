@@ -1,60 +1,35 @@
 // The lengths of the lists of a scan.
 ghost use Rattle.std.specs.Prelude.{◌≡◌};
-ghost use Rattle.scan.specs.ScanRefusal.{lists_accepted, lengths_accepted};
+ghost use Rattle.scan.specs.LentLists.{lists_in};
+ghost use Rattle.scan.specs.Scan.{scan_of};
+ghost use Rattle.scan.specs.ScanRefusal.{given_exact, lists_exact};
 
 use crate::head::{ScanHead, cells_of, gates_of};
-
-// The lengths of a scan's lists, lent ones too.
-#[derive(Clone, Copy)]
-pub struct Lengths {
-    pub azimuths: usize,
-    pub values: usize,
-    pub qualities: usize,
-    pub ledger: usize,
-    pub marks: usize,
-    pub counts: usize,
-    pub quality_sums: usize,
-    pub value_sums: usize,
-    pub weighted_sums: usize,
-}
+use crate::lists::{ListsMut, Rays};
 
 // The exact lengths of azimuths, values and qualities.
-pub fn lists_accepted(head: ScanHead, azimuths: usize, values: usize, qualities: usize) -> bool
-    ensures { result ≡ lists_accepted head azimuths values qualities }
+#[tactic(auto, unfolding(crate::specs::ScanRefusal::given_exact, crate::specs::ScanRefusal::lists_accepted))]
+pub fn lists_accepted(head: ScanHead, rays: Rays<'_>) -> bool
+    ensures { result ≡ given_exact (scan_of head rays.entry) }
 {
     let gates = gates_of(head);
-    if azimuths != head.rays as usize {
-        return false;
-    }
-    if values != gates {
-        return false;
-    }
-    qualities == gates
+    rays.azimuths.len() == head.rays as usize
+        && rays.values.len() == gates
+        && rays.qualities.len() == gates
 }
 
 // The exact lengths of all lists.
-pub fn lengths_accepted(head: ScanHead, given: Lengths) -> bool
-    ensures { result ≡ lengths_accepted head given }
+#[tactic(auto, unfolding(crate::specs::ScanRefusal::lists_exact))]
+pub fn lengths_accepted(head: ScanHead, rays: Rays<'_>, lists: &ListsMut<'_>) -> bool
+    ensures { result ≡ lists_exact (scan_of head rays.entry) (lists_in lists.now) }
 {
     let gates = gates_of(head);
     let cells = cells_of(head);
-    if !lists_accepted(head, given.azimuths, given.values, given.qualities) {
-        return false;
-    }
-    if given.ledger != gates {
-        return false;
-    }
-    if given.marks != gates {
-        return false;
-    }
-    if given.counts != cells {
-        return false;
-    }
-    if given.quality_sums != cells {
-        return false;
-    }
-    if given.value_sums != cells {
-        return false;
-    }
-    given.weighted_sums == cells
+    lists_accepted(head, rays)
+        && lists.ledger.len() == gates
+        && lists.marks.len() == gates
+        && lists.counts.len() == cells
+        && lists.quality_sums.len() == cells
+        && lists.value_sums.len() == cells
+        && lists.weighted_sums.len() == cells
 }

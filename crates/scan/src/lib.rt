@@ -4,7 +4,9 @@
 mod checks;
 mod head;
 mod lengths;
+mod lists;
 
-pub use checks::{azimuths_accepted, qualities_accepted, scan_refusal};
+pub use checks::{azimuths_accepted, check_scan, qualities_accepted};
 pub use head::{ScanHead, cells_of, gates_of};
-pub use lengths::{Lengths, lengths_accepted, lists_accepted};
+pub use lengths::{lengths_accepted, lists_accepted};
+pub use lists::{ListsMut, Rays, RaysMut};

@@ -8,6 +8,7 @@ use native.Mathlib.Nat.{mod-lt, div-add-mod', div-lt_iff_lt-mul}
 use native.Mathlib.Omega.{arith}
 use borrow.Author.Tests.{eqb-true, eq-eqb, le-leb}
 use lib.Dec.{eqb}
+use Rattle.std.proofs.Common.{Ok}
 use lib.ListN.{length, get_or}
 use Rattle.arithmetic.specs.Places.{sum_to, all_of}
 use Rattle.arithmetic.proofs.Places.{sum_scale, sum_of_sums, all_at}
@@ -96,7 +97,7 @@ module _ (scan : Scan) (rays : length scan.azimuths ≡ scan.head.rays) (gates :
     i_azimuth = omega (arith, rays)
 
     -- it is not refused
-    placed : placement_of scan.head.site scan.head.grid azimuth range ≡ located (window_of scan.head.grid) (position_of (sphere_of scan.head.grid) scan.head.site azimuth range)
+    placed : placement_of scan.head.site scan.head.grid azimuth range ≡ Ok (located (window_of scan.head.grid) (position_of (sphere_of scan.head.grid) scan.head.site azimuth range))
     unfolding placement_of unless_refused azimuth_accepted
     placed = rw (gate_accepted scan.head centres site grid azimuth g (all_at azimuth_accepted scan.azimuths refl azimuths i) g-below)
 

@@ -5,6 +5,7 @@ use Prim.Native.Nat.{ℕ, ◌/◌, ◌%◌, ◌<◌, ◌≤◌}
 use native.Mathlib.Omega.{arith}
 use borrow.Author.Tests.{le-leb}
 use lib.Dec.{eqb}
+use Rattle.std.proofs.Common.{Some, None, Ok}
 use lib.IntN.{ℤ, pos, ◌-ℤ◌, nat_abs}
 use Rattle.arithmetic.specs.Fraction.{Fraction}
 use Rattle.arithmetic.specs.Nearness.{Within}
@@ -15,30 +16,21 @@ use Rattle.grid.specs.Mark.{tolerance}
 use Rattle.grid.specs.Window.{in_span, cell_number}
 use Rattle.grid.proofs.Cells.{in_span_natural}
 use Rattle.projection.specs.declared.position.Position.{Position}
-use Rattle.placement.specs.declared.gate.Placement.TheVariants.{Inside, Outside}
 use Rattle.placement.specs.Gate.{entry_of, mark_number, mark_of, outside_entry}
-use Rattle.placement.specs.Located.{column, row, in_window, marked, located}
-use Rattle.placement.specs.ExactCell.{inside*, outside*, column*, row*, in_window*, located*, entry_of*}
+use Rattle.placement.specs.Located.{column, row, marked, located}
+use Rattle.placement.specs.ExactCell.{column*, row*, in_window*, located*, entry_of*}
 use Rattle.placement.proofs.ExactCell.{column_beside, row_beside, entry_same}
 use Rattle.scan_laws.specs.ExactCount.{at_most_one_apart, beside_cell, beside_of}
 
--- ---- what a placement tells, whichever it is
+-- ---- what a placement tells
 
-mark_told : (window : Window) (at : Position) → mark_of (located window at) ≡ mark_number (marked window at)
+mark_told : (window : Window) (at : Position) → mark_of (Ok (located window at)) ≡ mark_number (marked window at)
 unfolding located mark_of
-mark_told window at = go (in_window window at) _
-  where
-    go : (inside : Bool) (cell : ℕ) → mark_of (cond inside (Inside cell at.x at.y (marked window at)) (Outside at.x at.y (marked window at))) ≡ mark_number (marked window at)
-    go true cell = refl
-    go false cell = refl
+mark_told window at = refl
 
-beside_told : (window : Window) (cell : ℕ) (at : Position) → beside_of window cell (located window at) ≡ cond (beside_cell window cell at) 1 0
+beside_told : (window : Window) (cell : ℕ) (at : Position) → beside_of window cell (Ok (located window at)) ≡ cond (beside_cell window cell at) 1 0
 unfolding located beside_of
-beside_told window cell at = go (in_window window at) _
-  where
-    go : (inside : Bool) (own : ℕ) → beside_of window cell (cond inside (Inside own at.x at.y (marked window at)) (Outside at.x at.y (marked window at))) ≡ cond (beside_cell window cell at) 1 0
-    go true own = refl
-    go false own = refl
+beside_told window cell at = refl
 
 -- a mark that is not 1 is none
 no_mark : (mark : Bool) → eqb (mark_number mark) 1 ≡ false → mark ≡ false
@@ -61,7 +53,7 @@ unfolding at_most_one_apart
 one_apart index e h = le-leb _ _ (subst (λ (z : ℤ). nat_abs (index -ℤ z) ≤ 1) e h)
 
 module _ (window : Window) (at : Position) (x y : Fraction) (least : 10000 ≤ window.side) (x-near : Within tolerance at.x x) (y-near : Within tolerance at.y y) where
-  pub unmarked_exact : eqb (mark_of (located window at)) 1 ≡ false → entry_of (located window at) ≡ entry_of* (located* window x y)
+  pub unmarked_exact : eqb (mark_of (Ok (located window at))) 1 ≡ false → entry_of (Ok (located window at)) ≡ entry_of* (located* window x y)
   unmarked_exact e = sym (entry_same window at x y least x-near y-near (no_mark (marked window at) (rw (mark_told window at) at e)))
 
   module _ (cell : ℕ) (below : cell < outside_entry) where
@@ -73,11 +65,10 @@ module _ (window : Window) (at : Position) (x y : Fraction) (least : 10000 ≤ w
         let of_row = one_apart (row window at) known.1 (row_beside window at x y least x-near y-near) in
         rw (of-column, of_row)
 
-    by_span : (inside : Bool) → in_window* window x y ≡ inside → entry_of* (cond inside (inside* (cell_number window.columns (row* window x y) (column* window x y))) outside*) ≡ cell → beside_cell window cell at ≡ true
-    unfolding entry_of*
+    by_span : (inside : Bool) → in_window* window x y ≡ inside → entry_of* (cond inside (Some (cell_number window.columns (row* window x y) (column* window x y))) None) ≡ cell → beside_cell window cell at ≡ true
     by_span true inside is = in_the_cell inside is
     by_span false inside is = absurd (omega arith)
 
-    pub exactly_beside : entry_of* (located* window x y) ≡ cell → beside_of window cell (located window at) ≡ 1
+    pub exactly_beside : entry_of* (located* window x y) ≡ cell → beside_of window cell (Ok (located window at)) ≡ 1
     unfolding located*
     exactly_beside is = beside_told window cell at ∙ ap (λ (b : Bool). cond {A = ℕ} b 1 0) (by_span (in_window* window x y) refl is)

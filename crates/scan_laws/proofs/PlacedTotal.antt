@@ -6,18 +6,18 @@ use native.Mathlib.Nat.{mul_comm, suc-mul, mul-le-mul_right}
 use native.Mathlib.Omega.{arith}
 use borrow.Author.Tests.{lt-ltb, le-ltb}
 use lib.Dec.{ltb}
+use Rattle.std.proofs.Common.{Some, None}
+use Rattle.std.specs.Option.{is_some, unwrap_or}
 use lib.IntN.{nat_abs}
 use lib.ListN.{length, get_or}
 use Rattle.arithmetic.specs.Places.{sum_to}
 use Rattle.arithmetic.proofs.Places.{sum_ext, sum_rows, sum_of_table}
 use Rattle.arithmetic.proofs.Test.{and_true}
-use Rattle.placement.specs.declared.gate.Placement.{Placement}
-use Rattle.placement.specs.declared.gate.Placement.TheVariants.{Inside, Outside}
 use Rattle.grid.specs.declared.window.Window.{Window}
 use Rattle.projection.specs.declared.position.Position.{Position}
-use Rattle.placement.specs.Gate.{unless_refused, placement_of, entry_of}
+use Rattle.placement.specs.Gate.{PlaceAnswer, unless_refused, placement_of, entry_of, outside_entry}
 use Rattle.grid.specs.Window.{window_of, in_span, cell_number}
-use Rattle.placement.specs.Located.{in_window, marked, located, row, column}
+use Rattle.placement.specs.Located.{in_window, cell_at, located, row, column}
 use Rattle.grid.proofs.Cells.{in_span_natural}
 use Rattle.tally.specs.Gates.{is_measured}
 use Rattle.scan_laws.specs.Placed.{is_inside, gate_placement, gate_value, is_placed, placed_of}
@@ -30,7 +30,7 @@ use Rattle.scan_laws.proofs.LedgerEntry.{so_many_gates, ledger_entry}
 
 -- ---- the entry of a gate names one of the cells just where the gate is placed inside
 
-Told : Placement → ℕ → Type 0
+Told : PlaceAnswer → ℕ → Type 0
 Told placement cells = ltb (entry_of placement) cells ≡ is_inside placement
 
 cell_below : (columns rows r c : ℕ) → r < rows → c < columns → r * columns + c < columns * rows
@@ -38,8 +38,8 @@ cell_below columns rows r c h i =
     omega (arith, mul-le-mul_right {m = suc r} {n = rows} columns h, suc-mul r columns, mul_comm rows columns)
 
 module _ (window : Window) (at : Position) (h : window.columns * window.rows ≤ 4294967295) where
-  located_by : (b : Bool) → in_window window at ≡ b → Told (cond b (Inside (cell_number window.columns (row window at) (column window at)) at.x at.y (marked window at)) (Outside at.x at.y (marked window at))) (window.columns * window.rows)
-  unfolding Told in_window cell_number entry_of is_inside
+  located_by : (b : Bool) → in_window window at ≡ b → ltb (unwrap_or (cond b (Some (cell_number window.columns (row window at) (column window at))) None) outside_entry) (window.columns * window.rows) ≡ is_some (cond b (Some (cell_number window.columns (row window at) (column window at))) None)
+  unfolding in_window cell_number
   located_by true e =
       let both = and_true (in_span window.columns (column window at)) (in_span window.rows (row window at)) e in
       lt-ltb _ _
@@ -49,7 +49,7 @@ module _ (window : Window) (at : Position) (h : window.columns * window.rows ≤
   located_by false e = le-ltb _ _ h
 
   unless_refused_lem : (number : ℕ) → Told (unless_refused number (located window at)) (window.columns * window.rows)
-  unfolding unless_refused located Told entry_of is_inside
+  unfolding unless_refused located cell_at Told entry_of is_inside
   unless_refused_lem zero = located_by (in_window window at) refl
   unless_refused_lem (suc number) = le-ltb _ _ h
 

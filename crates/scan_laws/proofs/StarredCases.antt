@@ -20,14 +20,14 @@ use Rattle.limits.specs.Accepted.{range_accepted, azimuth_accepted, site_accepte
 use Rattle.placement.specs.GateRefusal.{gate_refusal}
 use Rattle.grid.specs.Sphere.{sphere_of, radolan_sphere, hrap_sphere}
 use Rattle.grid.specs.Window.{window_of, index_of, in_span, cell_number}
-use Rattle.placement.specs.Located.{column, row, in_window, located}
+use Rattle.placement.specs.Located.{column, row, in_window, cell_at, located}
 use Rattle.placement.proofs.GateCases.{hrap_meridian, radolan_meridian, mesh_column_of_zero_lem, west_of_edge, on_edge, west_of_next_edge, on_next_edge}
 use Rattle.tally.specs.Gates.{is_measured, echo_of, weighted_echo}
 use Rattle.scan_laws.specs.StarredCases.{example_head, example, example_scan, example_with, RefusedBy, sums_after, CountIs, CellsHold, Holds, AllHold, starred_cases}
 use Rattle.limits.specs.declared.weighting.Weighting.{Weighting}
 use Rattle.limits.specs.declared.weighting.Weighting.TheVariants.{Plain, ByQuality}
 use Rattle.tally.specs.LentSums.{Sums, Cells}
-use Rattle.publish.specs.Publication.{equally_long, publish_lengths, publish_refusal}
+use Rattle.publish.specs.Publication.{equally_long, publish_refusal}
 use Rattle.publish.proofs.EqualLengths.{equal_accepted}
 use Rattle.publish.specs.Publish.{mean_of, quality_of, published_mean, published_quality, dividends, divisors, published_cells}
 use Rattle.scan.specs.LentLists.{Lists}
@@ -42,7 +42,7 @@ use Rattle.tally.specs.Tally.{contributes, sum_over, count_of, quality_sum_of, v
 
 -- both gates lie in cell 1
 example_ledger : ledger_of example (regular_rays 2 (0 ∷ [])) ≡ 1 ∷ 1 ∷ []
-unfolding gates_told regular_rays all_gates ray_gates flat_map table example example_head example_grid entry_of placement_of unless_refused gate_refusal first_refusal range_accepted site_accepted grid_accepted size_accepted azimuth_accepted in_range in_signed_range window_of located in_window in_span cell_number column row index_of sphere_of hrap_sphere position_of position_by site_terms ray_terms arc_terms d d2 d3 d4 d5 sd cd w e n m u v divisor X Y cosine_of sine_of by_quarters in_turn in_quarter ◌modulo◌ quarter_sine S F G nearest sine_series cosine_series alternating term factorial arc arc_unit ◌⊕◌ opposite
+unfolding gates_told regular_rays all_gates ray_gates flat_map table example example_head example_grid entry_of placement_of unless_refused gate_refusal first_refusal range_accepted site_accepted grid_accepted size_accepted azimuth_accepted in_range in_signed_range window_of located cell_at in_window in_span cell_number column row index_of sphere_of hrap_sphere position_of position_by site_terms ray_terms arc_terms d d2 d3 d4 d5 sd cd w e n m u v divisor X Y cosine_of sine_of by_quarters in_turn in_quarter ◌modulo◌ quarter_sine S F G nearest sine_series cosine_series alternating term factorial arc arc_unit ◌⊕◌ opposite
 example_ledger = refl
 
 -- so its tally has these sums of the two cells
@@ -60,7 +60,7 @@ sums_are values qualities good lists exact =
     ap (λ (l : Lists). l.sums) (filled_is lists (none_refused values qualities good lists exact) refl) ∙ tallied values qualities
 
 -- and they are published
-published : (weighting : Weighting) (values qualities : List ℕ) → all_of quality_accepted qualities ≡ true → (list : Cells → List ℕ) {is : List ℕ} → list (published_cells weighting (tallied_sums (1 ∷ 1 ∷ []) values qualities 2)) ≡ is → (lists : Lists) (cells : Cells) → lists_exact (example_scan example values qualities) lists ≡ true → equally_long (publish_lengths (sums_after (example_scan example values qualities) lists) cells) ≡ true → list (afterwards (publish_refusal (sums_after (example_scan example values qualities) lists) cells) cells (published_cells weighting (sums_after (example_scan example values qualities) lists))) ≡ is
+published : (weighting : Weighting) (values qualities : List ℕ) → all_of quality_accepted qualities ≡ true → (list : Cells → List ℕ) {is : List ℕ} → list (published_cells weighting (tallied_sums (1 ∷ 1 ∷ []) values qualities 2)) ≡ is → (lists : Lists) (cells : Cells) → lists_exact (example_scan example values qualities) lists ≡ true → equally_long (sums_after (example_scan example values qualities) lists) cells ≡ true → list (afterwards (publish_refusal (sums_after (example_scan example values qualities) lists) cells) cells (published_cells weighting (sums_after (example_scan example values qualities) lists))) ≡ is
 unfolding afterwards
 published weighting values qualities good list e lists cells exact equal =
     rw (equal_accepted (sums_after (example_scan example values qualities) lists) cells equal)

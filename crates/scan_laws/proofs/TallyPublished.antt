@@ -5,9 +5,9 @@ use denote.Triple.Both.{Both}
 use lib.ListN.{length, get_or}
 use Rattle.arithmetic.proofs.Places.{table_length, table_at}
 use Rattle.refusal.specs.Answer.{gives, answered}
-use Rattle.refusal.specs.Outcome.{outcome_answer}
-use Rattle.refusal.specs.declared.outcome.Outcome.{Outcome}
-use Rattle.refusal.specs.declared.outcome.Outcome.TheVariants.{Done, Refused}
+use Rattle.refusal.specs.Numbered.{answer_of}
+use Rattle.refusal.specs.declared.numbered.Refusal.{Refusal}
+use Rattle.std.proofs.Common.{Result, Ok, Err}
 use Rattle.refusal.proofs.AnswerLaws.{given_is, filled_is}
 use Rattle.limits.specs.declared.weighting.Weighting.{Weighting}
 use Rattle.tally.specs.LentSums.{Cells}
@@ -21,7 +21,7 @@ use Rattle.publish.proofs.MeanBetween.{mean_between}
 use Rattle.publish.proofs.TalliedCells.{tally_published}
 use Rattle.scan.specs.LentLists.{Lists}
 use Rattle.scan.specs.Scan.{Scan, rays_of, gates_of, cells_of}
-use Rattle.scan.specs.ScanRefusal.{lists_accepted, lengths_accepted, lists_exact, scan_number, scan_refusal, refusal_for}
+use Rattle.scan.specs.ScanRefusal.{lists_accepted, given_exact, lists_exact, scan_number, scan_refusal, refusal_for}
 use Rattle.scan_ledger.specs.ScanLedger.{gates_told}
 use Rattle.scan.proofs.AcceptedScan.{AcceptedScan, cells_most, accepted_scan}
 use Rattle.accepted_tally.specs.TalliedLists.{tallied_lists}
@@ -32,10 +32,9 @@ use Rattle.scan_laws.proofs.PlacedTotal.{placed_total}
 use Rattle.scan_laws.proofs.ExactCount.{exact_by_marks}
 
 -- an answer that gives is the one that is done
-only_done : (answer : Outcome) → outcome_answer answer ≡ gives tt → answer ≡ Done
-unfolding outcome_answer
-only_done Done e = refl
-only_done (Refused number) e = cc
+only_done : (answer : Result (Unit {0}) Refusal) → answer_of answer ≡ gives tt → answer ≡ Ok tt
+only_done (Ok value) e = refl
+only_done (Err refusal) e = cc
 
 module _ (scan : Scan) where
   mean_at : (weighting : Weighting) (cell : ℕ) → cell < cells_of scan.head → get_or (scan_cells weighting scan).means cell 0 ≡ cell_mean weighting (tallied_lists scan).ledger scan.values scan.qualities cell
@@ -61,7 +60,7 @@ module _ (scan : Scan) where
     unfolding scan_cells tallied_lists
     cells_are weighting = tally_published _ scan.values scan.qualities (cells_of scan.head) weighting small (qualities_most good)
 
-    pub published_scan : (weighting : Weighting) (cells : Both Cells Cells) (answer : Outcome) → length cells.entry.means ≡ cells_of scan.head → length cells.entry.qualities ≡ cells_of scan.head → Publishes weighting (tallied_lists scan).sums cells answer → PublishedScan weighting scan (tallied_lists scan).ledger cells answer
+    pub published_scan : (weighting : Weighting) (cells : Both Cells Cells) (answer : Result (Unit {0}) Refusal) → length cells.entry.means ≡ cells_of scan.head → length cells.entry.qualities ≡ cells_of scan.head → Publishes weighting (tallied_lists scan).sums cells answer → PublishedScan weighting scan (tallied_lists scan).ledger cells answer
     unfolding answered
     published_scan weighting cells answer m q published =
         let none : publish_refusal (tallied_lists scan).sums cells.entry ≡ 0 = equal_accepted _ _ (equal_from _ _ (as_long {cells = cells.entry} m q)) in
@@ -83,13 +82,12 @@ module _ (scan : Scan) where
     }
 
 -- every scan whose tally is done, with values of 16 bits
-pub tally_then_publish : (scan : Scan) (lists : Both Lists Lists) → ((k : ℕ) → get_or scan.values k 0 ≤ 65535) → Tallies scan lists Done → TallyPublished scan lists.exit
-unfolding outcome_answer
+pub tally_then_publish : (scan : Scan) (lists : Both Lists Lists) → ((k : ℕ) → get_or scan.values k 0 ≤ 65535) → Tallies scan lists (Ok tt) → TallyPublished scan lists.exit
 tally_then_publish scan lists small tallied =
     let none : refusal_for scan lists.entry ≡ 0 = (given_is (refusal_for scan lists.entry) tallied.the_answer).0 in
     rw (filled_is lists.entry none tallied.the_lists) (all_of_it scan (accepted_scan scan lists.entry none) small)
 
 -- a tally knows no weighting: with any, the refusal and the lists are the same
 pub no_weighting : (weighting : Weighting) (scan : Scan) (lists : Lists) → (refusal_for (with_weighting weighting scan) lists ≡ refusal_for scan lists) × (tallied_lists (with_weighting weighting scan) ≡ tallied_lists scan)
-unfolding with_weighting refusal_for scan_refusal scan_number lists_exact lengths_accepted lists_accepted gates_of cells_of tallied_lists rays_of gates_told
+unfolding with_weighting refusal_for scan_refusal scan_number lists_exact given_exact lists_accepted gates_of cells_of tallied_lists rays_of gates_told
 no_weighting weighting scan lists = (refl, refl)

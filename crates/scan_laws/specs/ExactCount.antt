@@ -1,12 +1,11 @@
 -- Document 02, T-10: the ledger and the counts by exact positions, and what a ledger and marks that were written say of them. A star marks what
 -- exact positions give. Assumes nothing.
-use Rattle.std.specs.Prelude.{Bool, false, ◌&&◌, not, cond, List, ◌≡◌, ℕ, ◌+◌, ◌/◌, ◌%◌, ◌<◌, ◌≤◌, eqb, leb, ℤ, pos, ◌-ℤ◌, nat_abs, get_or}
+use Rattle.std.specs.Prelude.{Bool, false, Ok, Err, ◌&&◌, not, cond, List, ◌≡◌, ℕ, ◌+◌, ◌/◌, ◌%◌, ◌<◌, ◌≤◌, eqb, leb, ℤ, pos, ◌-ℤ◌, nat_abs, get_or}
 use Rattle.arithmetic.specs.Places.{sum_to}
 use Rattle.grid.specs.declared.window.Window.{Window}
 use Rattle.grid.specs.Window.{window_of}
 use Rattle.projection.specs.declared.position.Position.{Position}
-use Rattle.placement.specs.declared.gate.Placement.{Placement}
-use Rattle.placement.specs.declared.gate.Placement.TheVariants.{Inside, Outside, Refused}
+use Rattle.placement.specs.Gate.{PlaceAnswer}
 use Rattle.placement.specs.Located.{column, row}
 use Rattle.placement.specs.ExactCell.{cell_of*, entry_of*}
 use Rattle.tally.specs.Gates.{is_measured}
@@ -27,10 +26,9 @@ beside_cell window cell at =
     at_most_one_apart (column window at) (cell % window.columns) && at_most_one_apart (row window at) (cell / window.columns)
 
 -- 1 for a gate at such a position, inside the grid or outside, and 0 for any other
-unfoldable pub beside_of : Window → ℕ → Placement → ℕ
-beside_of window cell (Inside own x y mark) = cond (beside_cell window cell (record { x = x; y = y })) 1 0
-beside_of window cell (Outside x y mark) = cond (beside_cell window cell (record { x = x; y = y })) 1 0
-beside_of window cell (Refused number) = 0
+unfoldable pub beside_of : Window → ℕ → PlaceAnswer → ℕ
+beside_of window cell (Ok placement) = cond (beside_cell window cell (record { x = placement.x; y = placement.y })) 1 0
+beside_of window cell (Err refusal) = 0
 
 unfoldable pub is_marked : List ℕ → ℕ → Bool
 is_marked marks gate = eqb (get_or marks gate 0) 1

@@ -1,20 +1,18 @@
 -- The measured gates that are placed inside the grid, by the placement of each gate. Assumes nothing.
-use Rattle.std.specs.Prelude.{Bool, true, false, ◌&&◌, cond, ℕ, ◌+◌, ◌*◌, get_or}
+use Rattle.std.specs.Prelude.{Bool, false, Ok, Err, ◌&&◌, cond, ℕ, ◌+◌, ◌*◌, get_or}
+use Rattle.std.specs.Option.{is_some}
 use Rattle.arithmetic.specs.Places.{sum_to}
-use Rattle.placement.specs.declared.gate.Placement.{Placement}
-use Rattle.placement.specs.declared.gate.Placement.TheVariants.{Inside, Outside, Refused}
-use Rattle.placement.specs.Gate.{placement_of}
+use Rattle.placement.specs.Gate.{PlaceAnswer, placement_of}
 use Rattle.tally.specs.Gates.{is_measured}
 use Rattle.scan.specs.Scan.{Scan}
 
-unfoldable pub is_inside : Placement → Bool
-is_inside (Inside cell x y mark) = true
-is_inside (Outside x y mark) = false
-is_inside (Refused number) = false
+unfoldable pub is_inside : PlaceAnswer → Bool
+is_inside (Ok placement) = is_some placement.cell
+is_inside (Err refusal) = false
 
 module _ (scan : Scan) where
   -- the placement of gate g of ray i, which has its centre at first + g x spacing
-  unfoldable pub gate_placement : ℕ → ℕ → Placement
+  unfoldable pub gate_placement : ℕ → ℕ → PlaceAnswer
   gate_placement i g =
       placement_of scan.head.site scan.head.grid (get_or scan.azimuths i 0) (scan.head.first + g * scan.head.spacing)
 

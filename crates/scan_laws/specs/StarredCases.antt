@@ -5,7 +5,7 @@ use Rattle.placement.specs.GateCases.{GateCase, x_is_zero, mesh_column_of_zero, 
 use Rattle.limits.specs.declared.weighting.Weighting.{Weighting}
 use Rattle.limits.specs.declared.weighting.Weighting.TheVariants.{Plain, ByQuality}
 use Rattle.tally.specs.LentSums.{Sums, Cells}
-use Rattle.publish.specs.Publication.{equally_long, publish_lengths, publish_refusal}
+use Rattle.publish.specs.Publication.{equally_long, publish_refusal}
 use Rattle.publish.specs.Publish.{published_cells}
 use Rattle.scan.specs.declared.head.ScanHead.{ScanHead}
 use Rattle.scan.specs.LentLists.{Lists}
@@ -73,7 +73,7 @@ CountIs scan given = (lists : Lists) → lists_exact scan lists ≡ true → (su
 -- what a list of the two cells holds once these sums are published, whatever it held before: cell 0 is empty
 unfoldable pub CellsHold : Weighting → Scan → (Cells → List ℕ) → ℕ → ℕ → Type 0
 CellsHold weighting scan list empty given =
-    (lists : Lists) (cells : Cells) → lists_exact scan lists ≡ true → equally_long (publish_lengths (sums_after scan lists) cells) ≡ true → list (afterwards (publish_refusal (sums_after scan lists) cells) cells (published_cells weighting (sums_after scan lists))) ≡ empty ∷ given ∷ []
+    (lists : Lists) (cells : Cells) → lists_exact scan lists ≡ true → equally_long (sums_after scan lists) cells ≡ true → list (afterwards (publish_refusal (sums_after scan lists) cells) cells (published_cells weighting (sums_after scan lists))) ≡ empty ∷ given ∷ []
 
 unfoldable pub Holds : StarredCase → Type 0
 Holds (a_gate case) = GateHolds case

@@ -12,8 +12,7 @@ use Rattle.arithmetic.proofs.Test.{and_true}
 use Rattle.refusal.specs.Checks.{in_range, first_refusal}
 use Rattle.limits.specs.Accepted.{range_accepted, azimuth_accepted, site_accepted, grid_accepted}
 use Rattle.projection.specs.Position.{position_of}
-use Rattle.placement.specs.declared.gate.Placement.{Placement}
-use Rattle.placement.specs.Gate.{placement_of, unless_refused}
+use Rattle.placement.specs.Gate.{PlaceAnswer, placement_of, unless_refused}
 use Rattle.placement.specs.GateRefusal.{gate_refusal}
 use Rattle.placement.specs.Survey.{survey_of, surveyed, surveyed_gate}
 use Rattle.scan.specs.declared.head.ScanHead.{ScanHead}
@@ -38,13 +37,13 @@ module _ (head : ScanHead) (centres : centres_accepted head.gates head.first hea
       let range : leb (head.first + g * head.spacing) 46000000 ≡ true = le-leb _ _ (centres_most head.gates head.first head.spacing g centres h) in
       rw (range, site, grid, good)
 
-  module _ (told : Placement → ℕ) where
+  module _ (told : PlaceAnswer → ℕ) where
     -- a gate that is not refused is told by its survey
     accepted_gate : (azimuth range : ℕ) → gate_refusal head.site head.grid azimuth range ≡ 0 → surveyed_gate told (survey_of head.site head.grid) azimuth range ≡ told (placement_of head.site head.grid azimuth range)
     unfolding surveyed_gate surveyed survey_of placement_of unless_refused position_of
     accepted_gate azimuth range e = rw e
 
-    pub accepted_gates : (azimuths : List ℕ) → all_of azimuth_accepted azimuths ≡ true → surveyed_gates told (survey_of head.site head.grid) head.first head.spacing (regular_rays head.gates azimuths) ≡ gates_told told head (regular_rays head.gates azimuths)
+    pub accepted_gates : (azimuths : List ℕ) → all_of azimuth_accepted azimuths ≡ true → surveyed_gates told (survey_of head.site head.grid) (record { first = head.first; spacing = head.spacing }) (regular_rays head.gates azimuths) ≡ gates_told told head (regular_rays head.gates azimuths)
     unfolding gates_told surveyed_gates
     accepted_gates azimuths good =
         gates_same _ _ _ _ head.gates azimuth_accepted azimuths good

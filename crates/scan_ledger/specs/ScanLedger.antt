@@ -1,12 +1,11 @@
 -- Document 01, "Ledger and cells": the ledger of rays; document 02, T-02: their marks. Assumes nothing.
 use Rattle.std.specs.Prelude.{List, ℕ}
-use Rattle.placement.specs.declared.gate.Placement.{Placement}
-use Rattle.placement.specs.Gate.{placement_of, entry_of, mark_of}
+use Rattle.placement.specs.Gate.{PlaceAnswer, placement_of, entry_of, mark_of}
 use Rattle.scan.specs.declared.head.ScanHead.{ScanHead}
 use Rattle.scan.specs.Rays.{Ray, all_gates}
 
 -- what is told of each gate of the rays, measured or not
-unfoldable pub gates_told : (Placement → ℕ) → ScanHead → List Ray → List ℕ
+unfoldable pub gates_told : (PlaceAnswer → ℕ) → ScanHead → List Ray → List ℕ
 gates_told told head rays = all_gates (λ ray range. told (placement_of head.site head.grid ray.azimuth range)) head.first head.spacing rays
 
 -- its entry

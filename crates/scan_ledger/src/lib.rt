@@ -1,45 +1,35 @@
-// The ledger of rays and their marks, one ray after the other, from a place on.
+// The ledger of rays and their marks, one ray after the other.
 #![tactic(auto)]
 
 ghost use Rattle.std.specs.Prelude.{◌≡◌};
-ghost use Rattle.std.proofs.lemmas.List.Edits.{sets};
 ghost use Rattle.placement.specs.Gate.{entry_of, mark_of};
-ghost use Rattle.placement.specs.Survey.{Surveyed};
 ghost use Rattle.scan.specs.Rays.{regular_rays};
 ghost use Rattle.scan_ledger.specs.LedgerRoom.{RaysSpan, surveyed_gates};
 
-use placement::{Survey, ray_ledger};
+use placement::{Centres, Survey, ray_ledger};
 
-// For our own crates: they have tested the scan.
+// Each ray has `gates` gates. For our own crates: they have tested the scan.
 pub fn scan_ledger(
     survey: Survey,
-    gates: u32,
-    first: u32,
-    spacing: u32,
+    gates: usize,
+    centres: Centres,
     azimuths: &[u32],
     ledger: &mut [u32],
     marks: &mut [u8],
-    from: usize,
 )
-    requires { Surveyed survey × RaysSpan gates first spacing from azimuths.now ledger.old marks.old }
-    ensures entries { ledger.new ≡ sets ledger.old from (surveyed_gates entry_of survey first spacing (regular_rays gates azimuths.now)) }
-    ensures marks { marks.new ≡ sets marks.old from (surveyed_gates mark_of survey first spacing (regular_rays gates azimuths.now)) }
+    requires { RaysSpan gates centres azimuths.now ledger.old marks.old }
+    ensures entries { ledger.new ≡ surveyed_gates entry_of survey centres (regular_rays gates azimuths.now) }
+    ensures marks { marks.new ≡ surveyed_gates mark_of survey centres (regular_rays gates azimuths.now) }
 {
-    let step = gates as usize;
-    let mut start = from;
-    let mut ray = 0;
-    while ray < azimuths.len() {
+    for (ray, azimuth) in azimuths.iter().enumerate() {
+        let start = ray * gates;
+        let end = start + gates;
         ray_ledger(
             survey,
-            azimuths[ray],
-            first,
-            spacing,
-            ledger,
-            marks,
-            start,
-            start + step,
+            *azimuth,
+            centres,
+            &mut ledger[start..end],
+            &mut marks[start..end],
         );
-        start += step;
-        ray += 1;
     }
 }

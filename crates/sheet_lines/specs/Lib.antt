@@ -1,1 +1,2 @@
 pub mod SheetLines
+pub mod ListedCells

@@ -1,125 +1,93 @@
-// Lines of a sheet, stored in a page one behind the other. Each function answers the place behind the last byte that it stored, and is
-// ours alone. A number takes 20 digits at most.
+// Lines of a sheet, each stored in a page behind those before it. The functions are ours alone. A number takes 20 digits at most.
 #![tactic(auto)]
 
-ghost use Rattle.std.specs.Prelude.{◌≡◌, ◌≤◌, ◌+◌, length, get_or};
-ghost use Rattle.arithmetic.specs.Places.{sum_to};
-ghost use Rattle.text.specs.StoredText.{Stored};
+ghost use Rattle.std.specs.Prelude.{◌≡◌, ◌≤◌, ◌+◌, ◌*◌, length, sum};
+ghost use Rattle.text.specs.StoredText.{Appends};
 ghost use Rattle.sheet_lines.specs.SheetLines.{top_lines, cell_line, cell_lines, sheet_lines, too_large};
+ghost use Rattle.sheet_lines.specs.ListedCells.{IsListed, lines_of, sheet_of};
 
-use text::put_number;
+use text::Text;
 
-pub fn put_too_large(page: &mut [u8; 120000]) -> usize
-    ensures upper_bound { result ≤ 120000 }
-    ensures stored { Stored page.old 0 too_large result page.new }
+// What is printed of a grid's cells, each list in the order of their numbers.
+#[derive(Clone, Copy)]
+pub struct Cells<'a> {
+    pub counts: &'a [u32],
+    pub means: &'a [u16],
+    pub qualities: &'a [u8],
+}
+
+#[tactic(auto, unfolding(crate::specs::SheetLines::too_large, text::specs::DecimalText::line_of))]
+pub fn put_too_large(page: &mut Text<'_>)
+    requires { page.old.length + 10 ≤ length page.old.buffer.now }
+    ensures appended { Appends page.old too_large page.new }
+    ensures bounded { page.new.length ≤ page.old.length + 10 }
 {
-    text::put_word(page, 0, b"too large\n")
+    page.word(b"too large\n");
 }
 
 // The two lines above the cells.
-fn put_top(page: &mut [u8; 120000], columns: u64, rows: u64, gates: u64, placed: u64) -> usize
-    ensures upper_bound { result ≤ 102 }
-    ensures stored { Stored page.old 0 (top_lines columns rows gates placed) result page.new }
+fn put_top(page: &mut Text<'_>, columns: u32, rows: u32, gates: usize, placed: u64)
+    requires { page.old.length + 102 ≤ length page.old.buffer.now }
+    ensures appended { Appends page.old (top_lines columns rows gates placed) page.new }
+    ensures bounded { page.new.length ≤ page.old.length + 102 }
 {
-    let a = text::put_word(page, 0, b"grid ");
-    let b = put_number(page, a, columns, 32);
-    let c = put_number(page, b, rows, 10);
-    let d = text::put_word(page, c, b"gates ");
-    let e = put_number(page, d, gates, 32);
-    let f = text::put_word(page, e, b"placed ");
-    put_number(page, f, placed, 10)
+    page.word(b"grid ");
+    page.number(u64::from(columns), b' ');
+    page.number(u64::from(rows), b'\n');
+    page.word(b"gates ");
+    page.number(gates as u64, b' ');
+    page.word(b"placed ");
+    page.number(placed, b'\n');
 }
 
 // The line of a cell: column, row, mean, quality, count.
-fn put_cell(
-    page: &mut [u8; 120000],
-    at: usize,
-    columns: usize,
-    cell: usize,
-    mean: u16,
-    quality: u8,
-    count: u32,
-) -> usize
-    requires { (1 ≤ columns) × (at + 105 ≤ 120000) }
-    ensures upper_bound { result ≤ at + 105 }
-    ensures stored { Stored page.old at (cell_line columns cell mean quality count) result page.new }
+fn put_cell(page: &mut Text<'_>, columns: usize, cell: usize, mean: u16, quality: u8, count: u32)
+    requires { (1 ≤ columns) × (page.old.length + 105 ≤ length page.old.buffer.now) }
+    ensures appended { Appends page.old (cell_line columns cell mean quality count) page.new }
+    ensures bounded { page.new.length ≤ page.old.length + 105 }
 {
-    let a = put_number(page, at, (cell % columns) as u64, 32);
-    let b = put_number(page, a, (cell / columns) as u64, 32);
-    let c = put_number(page, b, mean as u64, 32);
-    let d = put_number(page, c, quality as u64, 32);
-    put_number(page, d, count as u64, 10)
+    page.number((cell % columns) as u64, b' ');
+    page.number((cell / columns) as u64, b' ');
+    page.number(u64::from(mean), b' ');
+    page.number(u64::from(quality), b' ');
+    page.number(u64::from(count), b'\n');
 }
 
 // Each cell with a count, south to north, west to east.
-fn put_cells(
-    page: &mut [u8; 120000],
-    at: usize,
-    columns: usize,
-    counts: &[u32],
-    means: &[u16],
-    qualities: &[u8],
-) -> usize
-    requires { (1 ≤ columns) × (at ≤ 102) × (length counts.now ≤ 1024) × (length means.now ≡ length counts.now) × (length qualities.now ≡ length counts.now) }
-    ensures upper_bound { result ≤ 120000 }
-    ensures stored { Stored page.old at (cell_lines columns counts.now means.now qualities.now (length counts.now)) result page.new }
+fn put_cells(page: &mut Text<'_>, columns: usize, cells: Cells<'_>)
+    requires { (1 ≤ columns) × IsListed cells × (page.old.length + 105 * length cells.counts.now ≤ length page.old.buffer.now) }
+    ensures appended { Appends page.old (lines_of columns cells.entry) page.new }
+    ensures bounded { page.new.length ≤ page.old.length + 105 * length cells.entry.counts.now }
 {
-    let mut next = at;
-    let mut cell = 0;
-    while cell < counts.len() {
-        if counts[cell] == 0 {
-            cell += 1;
+    for (cell, count) in cells.counts.iter().enumerate() {
+        if *count == 0 {
             continue;
         }
-        next = put_cell(
+        put_cell(
             page,
-            next,
             columns,
             cell,
-            means[cell],
-            qualities[cell],
-            counts[cell],
+            cells.means[cell],
+            cells.qualities[cell],
+            *count,
         );
-        cell += 1;
     }
-    next
-}
-
-fn wide(n: u32) -> u64
-    ensures { result ≡ n }
-{
-    n as u64
 }
 
 // The counts of all cells together.
 fn total(counts: &[u32]) -> u64
     requires { length counts.now ≤ 1024 }
-    ensures { result ≡ sum_to (λ k. get_or counts.now k 0) (length counts.now) }
+    ensures { result ≡ sum counts.now }
 {
-    let mut sum = 0;
-    let mut k = 0;
-    while k < counts.len() {
-        sum = sum + wide(counts[k]);
-        k += 1;
-    }
-    sum
+    counts.iter().map(|n| u64::from(*n)).sum()
 }
 
 // The measured gates that lie inside are those that some cell counts. There are at most 1,024 cells, so that 120,000 bytes hold all lines.
-pub fn put_sheet(
-    page: &mut [u8; 120000],
-    columns: u32,
-    rows: u32,
-    gates: usize,
-    counts: &[u32],
-    means: &[u16],
-    qualities: &[u8],
-) -> usize
-    requires { (1 ≤ columns) × (length counts.now ≤ 1024) × (length means.now ≡ length counts.now) × (length qualities.now ≡ length counts.now) }
-    ensures upper_bound { result ≤ 120000 }
-    ensures stored { Stored page.old 0 (sheet_lines columns rows gates (sum_to (λ k. get_or counts.now k 0) (length counts.now)) counts.now means.now qualities.now) result page.new }
+pub fn put_sheet(page: &mut Text<'_>, columns: u32, rows: u32, gates: usize, cells: Cells<'_>)
+    requires { (1 ≤ columns) × IsListed cells × (page.old.length + 120000 ≤ length page.old.buffer.now) }
+    ensures appended { Appends page.old (sheet_of columns rows gates cells.entry) page.new }
+    ensures bounded { page.new.length ≤ page.old.length + 120000 }
 {
-    let placed = total(counts);
-    let at = put_top(page, columns as u64, rows as u64, gates as u64, placed);
-    put_cells(page, at, columns as usize, counts, means, qualities)
+    put_top(page, columns, rows, gates, total(cells.counts));
+    put_cells(page, columns as usize, cells);
 }

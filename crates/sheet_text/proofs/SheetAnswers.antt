@@ -1,11 +1,12 @@
 -- Which text is printed: too large, refused, or the sheet. Assumes nothing.
-use mathlib.Core.Path.{◌≡◌, refl, sym, ap}
+use mathlib.Core.Path.{◌≡◌, refl, sym, ap, ◌∙◌}
 use mathlib.Core.List.{List}
 use Prim.Native.Nat.{ℕ, zero, suc, ◌≤◌, ◌<◌}
 use borrow.Author.Tests.{le-leb, lt-leb}
 use lib.ListN.{length}
-use Rattle.refusal.specs.Answer.{refuses, answered}
-use Rattle.refusal.proofs.AnswerLaws.{refused_is}
+use Rattle.refusal.specs.Numbered.{number_of}
+use Rattle.refusal.specs.declared.numbered.Refusal.{Refusal}
+use Rattle.refusal.proofs.NumberedLaws.{numbered}
 use Rattle.scan.specs.declared.head.ScanHead.{ScanHead}
 use Rattle.scan.specs.Scan.{gates_of, cells_of}
 use Rattle.record_layout.specs.RecordPlaces.{head_in}
@@ -30,7 +31,7 @@ module _ (bytes : List ℕ) {head : ScanHead} (e : head ≡ head_in bytes) where
   unfolding sized_sheet
   within_sizes g h = rw (sym e, le-leb (gates_of head) 4096 g, le-leb (cells_of head) 1024 h)
 
--- ---- the answer to a call for the head
+-- ---- the answer to a call for the record
 
 pub bytes_too_many : (bytes : List ℕ) → 16384 < length bytes → too_large ≡ sheet_text bytes
 unfolding sheet_text
@@ -41,11 +42,10 @@ unfolding refused_or
 refused_text zero n sheet e wrong = absurd (wrong refl)
 refused_text (suc number) n sheet e wrong = ap refused_line e
 
-pub is_refused : (bytes : List ℕ) (n : ℕ) → length bytes ≤ 16384 → refuses n ≡ answered (head_refusal bytes) (head_in bytes) → refused_line n ≡ sheet_text bytes
+pub is_refused : (bytes : List ℕ) (refusal : Refusal) → length bytes ≤ 16384 → number_of refusal ≡ head_refusal bytes → refused_line (number_of refusal) ≡ sheet_text bytes
 unfolding sheet_text
-is_refused bytes n h e =
-    let told = refused_is (head_refusal bytes) (head_in bytes) e in
-    rw (le-leb (length bytes) 16384 h) (refused_text (head_refusal bytes) n (sized_sheet bytes) told.0 told.1)
+is_refused bytes refusal h e =
+    rw (le-leb (length bytes) 16384 h) (refused_text (head_refusal bytes) (number_of refusal) (sized_sheet bytes) e (λ z. numbered refusal (e ∙ z)))
 
 pub is_sized : (bytes : List ℕ) → length bytes ≤ 16384 → head_refusal bytes ≡ 0 → sized_sheet bytes ≡ sheet_text bytes
 unfolding sheet_text refused_or

@@ -26,16 +26,12 @@ pub fn cosine(angle: i64) -> i64
     sine_in_turn((turn(angle) + QUARTER) % 3600000)
 }
 
-// The angle modulo 3,600,000. `%` takes the angle's sign, so a remainder below 0 lacks one whole turn.
+// The angle modulo 3,600,000.
+#[tactic(auto, using(arithmetic::proofs::Floor::remainder_modulo))]
 fn turn(angle: i64) -> u32
     ensures { (result ≡ angle modulo 3600000) × (result < 3600000) }
 {
-    let rest = angle % TURN;
-    if rest < 0 {
-        (rest + TURN) as u32
-    } else {
-        rest as u32
-    }
+    angle.rem_euclid(TURN) as u32
 }
 
 // The four quarters in order: the sine of t, the sine of 900,000 - t, minus the first, minus the second.
@@ -59,15 +55,9 @@ fn quarter_sine(t: u32) -> i64
     ensures { result ≡ quarter_sine t }
 {
     let a = (t / 1000) as usize;
-    let b = (t % 1000) as u64;
+    let b = u64::from(t % 1000);
     let s = coarse_sines::coarse_sines();
-    let sum = product(s[a], fine_sines::fine_cosine(b))
-        + product(s[900 - a], fine_sines::fine_sine(b));
+    let sum = u64::from(s[a]) * u64::from(fine_sines::fine_cosine(b))
+        + u64::from(s[900 - a]) * u64::from(fine_sines::fine_sine(b));
     (sum / Q) as i64
-}
-
-fn product(x: u32, y: u32) -> u64
-    ensures { result ≡ x * y }
-{
-    (x as u64) * (y as u64)
 }

@@ -15,10 +15,8 @@ use Rattle.scan.specs.declared.head.ScanHead.{ScanHead}
 use Rattle.scan.specs.Scan.{cells_of}
 use Rattle.sweep_checks.specs.SweepLengths.{cells_accepted}
 use Rattle.sweep_checks.specs.SweepNumbers.{close_number}
+use Rattle.sweep_checks.proofs.AcceptedSums.{AcceptedSums, accepted_sums}
 use Rattle.sweep_checks.proofs.PassedState.{passed_state}
-use Rattle.accepted_take.specs.TakenLists.{sum_lengths}
-use Rattle.accepted_take.proofs.AcceptedGroup.{AcceptedSums, accepted_sums}
-use Rattle.sweep.specs.SweepOperations.{cell_lengths}
 
 pub record AcceptedClose (head : ScanHead) (closed : Bool) (taken : ℕ) (sums : Sums) (cells : Cells) : Type 0 where
   pub open_yet : closed ≡ false
@@ -28,7 +26,7 @@ pub record AcceptedClose (head : ScanHead) (closed : Bool) (taken : ℕ) (sums :
   pub means_length : length cells.means ≡ cells_of head
   pub cell_qualities_length : length cells.qualities ≡ cells_of head
 
-pub accepted_close : (head : ScanHead) (closed : Bool) (taken : ℕ) (sums : Sums) (cells : Cells) → close_number head closed taken (sum_lengths sums) (cell_lengths cells) ≡ 0 → AcceptedClose head closed taken sums cells
+pub accepted_close : (head : ScanHead) (closed : Bool) (taken : ℕ) (sums : Sums) (cells : Cells) → close_number head closed taken sums cells ≡ 0 → AcceptedClose head closed taken sums cells
 unfolding close_number first_refusal cells_accepted
 accepted_close head closed taken sums cells e =
     let both = then_none _ _ e in

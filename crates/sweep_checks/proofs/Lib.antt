@@ -1,2 +1,2 @@
-pub mod LengthTests
+pub mod AcceptedSums
 pub mod PassedState

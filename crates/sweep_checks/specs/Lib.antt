@@ -1,2 +1,3 @@
+pub mod RayGroup
 pub mod SweepLengths
 pub mod SweepNumbers

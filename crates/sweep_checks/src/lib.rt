@@ -4,5 +4,4 @@
 mod lengths;
 mod refusal_numbers;
 
-pub use lengths::{CellLengths, GroupLengths, SumLengths};
-pub use refusal_numbers::{close_refusal, open_refusal, take_refusal};
+pub use refusal_numbers::{check_close, check_open, check_take};

@@ -1,83 +1,83 @@
-// The number of a refused operation of a sweep, or 0. The numbers of a state are tested at each operation, since its owner may alter them.
+// What is refused of an operation of a sweep. The numbers of a state are tested at each operation, since its owner may alter them.
 ghost use Rattle.std.specs.Prelude.{◌≡◌};
+ghost use Rattle.arithmetic.specs.Places.{all_of};
+ghost use Rattle.refusal.specs.Numbered.{refusal_in};
+ghost use Rattle.limits.specs.Accepted.{azimuth_accepted};
+ghost use Rattle.tally.specs.LentSums.{sums_in, sums_read, cells_in};
+ghost use Rattle.scan.specs.LentLists.{lists_in};
+ghost use Rattle.scan.specs.ScanRefusal.{quality_accepted};
+ghost use Rattle.sweep_checks.specs.RayGroup.{group_of};
 ghost use Rattle.sweep_checks.specs.SweepNumbers.{state_number, open_number, take_number, close_number};
 
-use crate::lengths::{
-    CellLengths, GroupLengths, SumLengths, cells_accepted, group_accepted, sums_accepted,
-};
-use scan::{ScanHead, scan_refusal};
+use crate::lengths::{cells_accepted, sums_accepted, taken_accepted};
+use refusal::Refusal;
+use scan::{ListsMut, Rays, ScanHead, azimuths_accepted, check_scan, qualities_accepted};
+use tally::{CellsMut, SumsMut, SumsRef};
 
 // 19 for a closed state, then 17 for more rays than were announced.
-fn state_refusal(head: ScanHead, closed: bool, taken: u32, more: usize) -> u32
-    ensures { result ≡ state_number head closed taken more }
+// Kept: what may not change: `Sweep` with its three operations is the crate `sweep`, above this one, so head, closed and taken are apart here.
+#[tactic(auto, unfolding(crate::specs::SweepNumbers::state_number, refusal::specs::Checks::first_refusal))]
+fn check_state(head: ScanHead, closed: bool, taken: u32, more: usize) -> Result<(), Refusal>
+    ensures { refusal_in result ≡ state_number head closed taken more }
 {
     if closed {
-        return 19;
+        return Err(Refusal::Closed);
     }
-    if head.rays < taken {
-        return 17;
+    match head.rays.checked_sub(taken) {
+        Some(left) if more <= left as usize => Ok(()),
+        _ => Err(Refusal::RaysPast),
     }
-    if ((head.rays - taken) as usize) < more {
-        return 17;
-    }
-    0
 }
 
 // 1 to 6.
-pub fn open_refusal(head: ScanHead, given: SumLengths) -> u32
-    ensures { result ≡ open_number head given }
+#[tactic(auto, unfolding(crate::specs::SweepNumbers::open_number))]
+pub fn check_open(head: ScanHead, sums: &SumsMut<'_>) -> Result<(), Refusal>
+    ensures { refusal_in result ≡ open_number head (sums_in sums.now) }
 {
-    scan_refusal(head, sums_accepted(head, given), true, true)
+    check_scan(head, sums_accepted(head, sums.as_ref()), true, true)
 }
 
-// 19, 17, 1 to 8. Azimuths and qualities were tested by the caller.
-pub fn take_refusal(
+// 19, 17, 1 to 8.
+#[tactic(auto, unfolding(crate::specs::SweepNumbers::take_number))]
+pub fn check_take(
     head: ScanHead,
     closed: bool,
     taken: u32,
-    group: GroupLengths,
-    sums: SumLengths,
-    azimuths: bool,
-    qualities: bool,
-) -> u32
-    ensures { result ≡ take_number head closed taken group sums azimuths qualities }
+    rays: Rays<'_>,
+    lists: &ListsMut<'_>,
+) -> Result<(), Refusal>
+    ensures { refusal_in result ≡ take_number head closed taken (group_of rays.entry) (lists_in lists.now) (all_of azimuth_accepted rays.entry.azimuths.now) (all_of quality_accepted rays.entry.qualities.now) }
 {
-    let state = state_refusal(head, closed, taken, group.azimuths);
-    if state != 0 {
-        return state;
-    }
-    if !group_accepted(head, group) {
-        return scan_refusal(head, false, azimuths, qualities);
-    }
-    scan_refusal(head, sums_accepted(head, sums), azimuths, qualities)
+    check_state(head, closed, taken, rays.azimuths.len())?;
+    check_scan(
+        head,
+        taken_accepted(head, rays, lists),
+        azimuths_accepted(rays.azimuths),
+        qualities_accepted(rays.qualities),
+    )
 }
 
 // 19, 17, 1 to 5, 18 for closing early, then 6.
-pub fn close_refusal(
+#[tactic(auto, unfolding(crate::specs::SweepNumbers::close_number, refusal::specs::Checks::first_refusal))]
+pub fn check_close(
     head: ScanHead,
     closed: bool,
     taken: u32,
-    sums: SumLengths,
-    cells: CellLengths,
-) -> u32
-    ensures { result ≡ close_number head closed taken sums cells }
+    sums: SumsRef<'_>,
+    cells: &CellsMut<'_>,
+) -> Result<(), Refusal>
+    ensures { refusal_in result ≡ close_number head closed taken (sums_read sums.entry) (cells_in cells.now) }
 {
-    let state = state_refusal(head, closed, taken, 0);
-    if state != 0 {
-        return state;
-    }
-    let numbers = scan_refusal(head, true, true, true);
-    if numbers != 0 {
-        return numbers;
-    }
+    check_state(head, closed, taken, 0)?;
+    check_scan(head, true, true, true)?;
     if taken < head.rays {
-        return 18;
+        return Err(Refusal::ClosedEarly);
     }
     if !sums_accepted(head, sums) {
-        return 6;
+        return Err(Refusal::Length);
     }
     if !cells_accepted(head, cells) {
-        return 6;
+        return Err(Refusal::Length);
     }
-    0
+    Ok(())
 }

@@ -2,7 +2,7 @@
 use mathlib.Core.Bool.{Bool, true}
 use mathlib.Core.List.{List, ◌++◌}
 use mathlib.Core.Path.{◌≡◌, refl, sym, ap, ◌∙◌}
-use Prim.Native.Nat.{ℕ, ◌+◌, ◌*◌, ◌≤◌}
+use Prim.Native.Nat.{ℕ, ◌*◌, ◌≤◌}
 use native.Mathlib.Nat.{zero-add, mul-le-mul, mul-le-mul_right}
 use native.Mathlib.Omega.{arith}
 use borrow.Author.Tests.{leb-true}
@@ -18,22 +18,21 @@ use Rattle.tally.specs.Tally.{cleared, added_sums}
 use Rattle.tally.specs.Width.{fit_widths}
 use Rattle.tally.proofs.TallySplit.{added_joined}
 use Rattle.tally.proofs.TallyWidth.{GatesMost, from_nothing_fits}
-use Rattle.placement.specs.declared.gate.Placement.{Placement}
-use Rattle.placement.specs.Gate.{entry_of}
+use Rattle.placement.specs.Gate.{PlaceAnswer, entry_of}
 use Rattle.scan.specs.declared.head.ScanHead.{ScanHead}
 use Rattle.scan.specs.LentLists.{Lists}
 use Rattle.scan.specs.Rays.{regular_rays}
 use Rattle.scan.specs.Scan.{gates_of}
 use Rattle.scan.specs.ScanRefusal.{quality_accepted}
 use Rattle.scan_ledger.specs.ScanLedger.{gates_told}
-use Rattle.accepted_take.specs.RayGroup.{RayGroup}
+use Rattle.sweep_checks.specs.RayGroup.{RayGroup}
 use Rattle.accepted_take.specs.TakenLists.{group_ledger}
 use Rattle.accepted_take.proofs.AcceptedGroup.{AcceptedGroup}
 use Rattle.sweep_laws.specs.SweepSequence.{Sixteen, joined}
 use Rattle.sweep_laws.proofs.JoinedRays.{all_joined, lengths_joined, told_joined, told_length}
 
 -- what is told of the accepted rays' gates
-abbrev pub told_so_far : (Placement → ℕ) → ScanHead → RayGroup → List ℕ
+abbrev pub told_so_far : (PlaceAnswer → ℕ) → ScanHead → RayGroup → List ℕ
 told_so_far told head rays = gates_told told head (regular_rays head.gates rays.azimuths)
 
 abbrev pub ledger_so_far : ScanHead → RayGroup → List ℕ
@@ -83,7 +82,7 @@ module _ {head : ScanHead} {rays : RayGroup} (good : GoodRays head rays) where
       values_good = all_joined (λ value. leb value 65535) rays.values group.values good.values_good sixteen;
     }
 
-    pub told_behind : (told : Placement → ℕ) (lent : List ℕ) → sets (sets lent 0 (told_so_far told head rays)) (taken * head.gates) (told_so_far told head group) ≡ sets lent 0 (told_so_far told head (joined rays group))
+    pub told_behind : (told : PlaceAnswer → ℕ) (lent : List ℕ) → sets (sets lent 0 (told_so_far told head rays)) (taken * head.gates) (told_so_far told head group) ≡ sets lent 0 (told_so_far told head (joined rays group))
     unfolding joined
     told_behind told lent =
         ap (λ (n : ℕ). sets (sets lent 0 (told_so_far told head rays)) n (told_so_far told head group)) (ap (λ (n : ℕ). n * head.gates) so_many ∙ sym (told_length told head head.gates rays.azimuths) ∙ sym (zero-add _))

@@ -2,13 +2,13 @@
 use mathlib.Core.Bool.{Bool, true}
 use mathlib.Core.List.{List, [], ◌∷◌, ◌++◌}
 use mathlib.Core.Path.{◌≡◌, refl, sym, ap, ◌∙◌}
-use Prim.Native.Nat.{ℕ, ◌+◌, ◌*◌}
+use Prim.Native.Nat.{ℕ, ◌*◌}
 use native.Mathlib.Nat.{add-mul}
 use native.Mathlib.Omega.{arith}
 use lib.ListN.{length, length-append}
 use Rattle.arithmetic.specs.Places.{all_of}
 use Rattle.arithmetic.proofs.Test.{and_true}
-use Rattle.placement.specs.declared.gate.Placement.{Placement}
+use Rattle.placement.specs.Gate.{PlaceAnswer}
 use Rattle.scan.specs.declared.head.ScanHead.{ScanHead}
 use Rattle.scan.specs.Rays.{regular_rays}
 use Rattle.scan.proofs.RayLaws.{gates_joined, gates_length, regular_gates}
@@ -28,7 +28,7 @@ pub lengths_joined : (gates : ℕ) (a b v w : List ℕ) → length v ≡ length 
 lengths_joined gates a b v w e f =
     length-append v w ∙ omega (arith, e, f, add-mul (length a) (length b) gates) ∙ ap (λ (n : ℕ). n * gates) (sym (length-append a b))
 
-module _ (told : Placement → ℕ) (head : ScanHead) (gates : ℕ) where
+module _ (told : PlaceAnswer → ℕ) (head : ScanHead) (gates : ℕ) where
   pub told_joined : (xs ys : List ℕ) → gates_told told head (regular_rays gates (xs ++ ys)) ≡ gates_told told head (regular_rays gates xs) ++ gates_told told head (regular_rays gates ys)
   unfolding gates_told
   told_joined xs ys = rw (rays_joined gates xs ys) (gates_joined _ head.first head.spacing (regular_rays gates xs) (regular_rays gates ys))

@@ -1,7 +1,7 @@
 -- No call of a sequence is refused by 31. Assumes nothing.
 use mathlib.Core.Bool.{Bool, true, false, cond}
 use mathlib.Core.List.{List, [], ◌∷◌}
-use mathlib.Core.Path.{◌≡◌, refl, sym, ap, ◌∙◌}
+use mathlib.Core.Path.{◌≡◌, refl, sym, ◌∙◌}
 use Prim.Native.Nat.{ℕ, zero, suc}
 use native.Mathlib.Omega.{arith}
 use Rattle.refusal.specs.Answer.{refuses, answered}
@@ -11,9 +11,9 @@ use Rattle.tally.specs.Width.{fit_widths}
 use Rattle.scan.specs.declared.head.ScanHead.{ScanHead}
 use Rattle.scan.specs.ScanRefusal.{scan_number}
 use Rattle.sweep_checks.specs.SweepNumbers.{state_number, take_number, close_number}
-use Rattle.accepted_take.specs.RayGroup.{RayGroup}
+use Rattle.sweep_checks.specs.RayGroup.{RayGroup}
 use Rattle.accepted_take.specs.TakenLists.{taken_lists, take_checks, take_refusal}
-use Rattle.sweep.specs.SweepOperations.{swept_answer, rays_refusal, counted, close_refusal, ended}
+use Rattle.sweep.specs.SweepOperations.{rays_refusal, counted, close_refusal, ended}
 use Rattle.sweep_laws.specs.SweepSequence.{SweepLists, Held, Call, takes, closes, Sixteen, IsCall, NotRefusedBy}
 use Rattle.sweep_laws.proofs.SweepInvariant.{SoFar, always_fits}
 
@@ -72,12 +72,12 @@ module _ {head : ScanHead} {lent : SweepLists} {rays : RayGroup} {held : Held} (
   close_other = other_then _ _ (other_then _ _ (state_other _ _ _ _) (scan_other _ _ _ _)) (first_other _ ((λ e. omega (arith, e)) and (λ e. omega (arith, e)) and tt))
 
   pub call_other : (call : Call) → IsCall held call → (calls : List Call) → NotRefusedBy 31 calls → NotRefusedBy 31 (call ∷ calls)
-  unfolding IsCall NotRefusedBy swept_answer Other
+  unfolding IsCall NotRefusedBy Other
   call_other (takes group answer lists) (contract, sixteen) calls others = (
-    λ e. let told : refuses 31 ≡ answered (rays_refusal held.sweep group _) (counted held.sweep group) = ap swept_answer (sym e) ∙ contract.the_answer in take_other group sixteen (sym (refused_is _ _ told).0),
+    λ e. let told : refuses 31 ≡ answered (rays_refusal held.sweep group _) (counted held.sweep group) = sym e ∙ contract.the_answer in take_other group sixteen (sym (refused_is _ _ told).0),
     others,
   )
   call_other (closes answer cells) contract calls others = (
-    λ e. let told : refuses 31 ≡ answered (close_refusal held.sweep held.lists.tally.sums held.lists.cells) (ended held.sweep) = ap swept_answer (sym e) ∙ contract.the_answer in close_other (sym (refused_is _ _ told).0),
+    λ e. let told : refuses 31 ≡ answered (close_refusal held.sweep held.lists.tally.sums held.lists.cells) (ended held.sweep) = sym e ∙ contract.the_answer in close_other (sym (refused_is _ _ told).0),
     others,
   )

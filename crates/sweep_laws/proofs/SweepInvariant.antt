@@ -22,11 +22,12 @@ use Rattle.scan_ledger.specs.ScanLedger.{gates_told}
 use Rattle.accepted_tally.specs.TalliedLists.{tallied_lists}
 use Rattle.publish.proofs.TalliedCells.{tally_published}
 use Rattle.scan_laws.specs.TallyPublished.{scan_cells}
-use Rattle.accepted_take.specs.RayGroup.{RayGroup}
+use Rattle.sweep_checks.specs.RayGroup.{RayGroup}
 use Rattle.accepted_take.specs.TakenLists.{group_ledger, group_marks, taken_lists, take_checks, take_refusal}
-use Rattle.accepted_take.proofs.AcceptedGroup.{AcceptedSums, AcceptedGroup, accepted_group}
-use Rattle.sweep.specs.declared.Swept.TheVariants.{State, Refused}
-use Rattle.sweep.specs.SweepOperations.{swept_answer, rays_refusal, counted, close_refusal, ended}
+use Rattle.sweep_checks.proofs.AcceptedSums.{AcceptedSums}
+use Rattle.accepted_take.proofs.AcceptedGroup.{AcceptedGroup, accepted_group}
+use Rattle.std.specs.Prelude.{Ok, Err}
+use Rattle.sweep.specs.SweepOperations.{rays_refusal, counted, close_refusal, ended}
 use Rattle.sweep.proofs.ClosedSweep.{accepted_close}
 use Rattle.sweep_laws.specs.SweepSequence.{SweepLists, Held, Call, takes, closes, latest, handed_on, Sixteen, IsCall, joined, accepted_with, whole_scan}
 use Rattle.sweep_laws.proofs.GoodRays.{told_so_far, ledger_so_far, GoodRays, values_most, qualities_most, rays_fit, good_joined, told_behind, sums_behind, room_behind}
@@ -70,7 +71,7 @@ module _ {head : ScanHead} {lent : SweepLists} {rays : RayGroup} {held : Held} (
 
   -- ---- an accepted group
 
-  after_take : (group : RayGroup) → Sixteen group.values → take_checks held.sweep.head held.sweep.closed held.sweep.taken group held.lists.tally ≡ 0 → SoFar head lent (joined rays group) (handed_on held (takes group (State (counted held.sweep group)) (taken_lists held.sweep.head held.sweep.taken group held.lists.tally)))
+  after_take : (group : RayGroup) → Sixteen group.values → take_checks held.sweep.head held.sweep.closed held.sweep.taken group held.lists.tally ≡ 0 → SoFar head lent (joined rays group) (handed_on held (takes group (Ok (counted held.sweep group)) (taken_lists held.sweep.head held.sweep.taken group held.lists.tally)))
   unfolding handed_on latest counted taken_lists joined
   after_take group sixteen e =
       let next = accepted group e in
@@ -129,7 +130,7 @@ module _ {head : ScanHead} {lent : SweepLists} {rays : RayGroup} {held : Held} (
   published : published_cells held.sweep.head.weighting held.lists.tally.sums ≡ scan_cells head.weighting (whole_scan head rays)
   published = rw so_far.same_head (either_published head.weighting)
 
-  after_close : close_refusal held.sweep held.lists.tally.sums held.lists.cells ≡ 0 → SoFar head lent rays (handed_on held (closes (State (ended held.sweep)) (published_cells held.sweep.head.weighting held.lists.tally.sums)))
+  after_close : close_refusal held.sweep held.lists.tally.sums held.lists.cells ≡ 0 → SoFar head lent rays (handed_on held (closes (Ok (ended held.sweep)) (published_cells held.sweep.head.weighting held.lists.tally.sums)))
   unfolding handed_on latest ended close_refusal
   after_close e =
       let known = accepted_close held.sweep.head held.sweep.closed held.sweep.taken held.lists.tally.sums held.lists.cells e in
@@ -153,19 +154,19 @@ module _ {head : ScanHead} {lent : SweepLists} {rays : RayGroup} {held : Held} (
   lists_left number before after wrong e = e ∙ sym (kept number before after wrong)
 
   pub after_call : (call : Call) → IsCall held call → SoFar head lent (accepted_with rays call) (handed_on held call)
-  unfolding IsCall accepted_with handed_on latest swept_answer rays_refusal take_refusal
-  after_call (takes group (State sweep) lists) (contract, sixteen) =
+  unfolding IsCall accepted_with handed_on latest rays_refusal take_refusal
+  after_call (takes group (Ok sweep) lists) (contract, sixteen) =
       let told = given_is (rays_refusal held.sweep group held.lists.tally) contract.the_answer in
       let none = (then_none _ _ told.0).0 in
       rw (told.1, filled_is held.lists.tally told.0 contract.the_lists) (after_take group sixteen none)
-  after_call (takes group (Refused number) lists) (contract, sixteen) =
+  after_call (takes group (Err refusal) lists) (contract, sixteen) =
       let told = refused_is (rays_refusal held.sweep group held.lists.tally) (counted held.sweep group) contract.the_answer in
       let same = lists_left _ held.lists.tally _ told.1 contract.the_lists in
-      after_refusal (handed_on held (takes group (Refused number) lists)).lists (λ i. record { tally = same i; cells = held.lists.cells })
-  after_call (closes (State sweep) cells) contract =
+      after_refusal (handed_on held (takes group (Err refusal) lists)).lists (λ i. record { tally = same i; cells = held.lists.cells })
+  after_call (closes (Ok sweep) cells) contract =
       let told = given_is (close_refusal held.sweep held.lists.tally.sums held.lists.cells) contract.the_answer in
       rw (told.1, filled_is held.lists.cells told.0 contract.the_cells) (after_close told.0)
-  after_call (closes (Refused number) cells) contract =
+  after_call (closes (Err refusal) cells) contract =
       let told = refused_is (close_refusal held.sweep held.lists.tally.sums held.lists.cells) (ended held.sweep) contract.the_answer in
       let same = lists_left _ held.lists.cells _ told.1 contract.the_cells in
-      after_refusal (handed_on held (closes (Refused number) cells)).lists (λ i. record { tally = held.lists.tally; cells = same i })
+      after_refusal (handed_on held (closes (Err refusal) cells)).lists (λ i. record { tally = held.lists.tally; cells = same i })

@@ -13,11 +13,11 @@ use Rattle.arithmetic.specs.Places.{sum_to, all_of}
 use Rattle.arithmetic.proofs.SetsLaws.{sets_start_at}
 use Rattle.refusal.specs.Checks.{in_range, first_refusal}
 use Rattle.refusal.proofs.AnswerLaws.{given_is, filled_is}
-use Rattle.refusal.specs.declared.outcome.Outcome.{Outcome}
+use Rattle.refusal.specs.declared.numbered.Refusal.{Refusal}
+use Rattle.std.specs.Prelude.{Result, Ok}
 use Rattle.publish.specs.Publish.{published_cells}
 use Rattle.refusal.proofs.RangeBounds.{range_bounds}
-use Rattle.placement.specs.declared.gate.Placement.{Placement}
-use Rattle.placement.specs.Gate.{entry_of, mark_of}
+use Rattle.placement.specs.Gate.{PlaceAnswer, entry_of, mark_of}
 use Rattle.tally.specs.LentSums.{Sums}
 use Rattle.tally.specs.Tally.{cleared, added_sums}
 use Rattle.tally.proofs.TallySplit.{added_none}
@@ -36,12 +36,10 @@ use Rattle.scan_laws.proofs.ExactCount.{exact_by_marks}
 use Rattle.scan_laws.proofs.PlacedTotal.{placed_total}
 use Rattle.sweep_checks.specs.SweepLengths.{sums_accepted}
 use Rattle.sweep_checks.specs.SweepNumbers.{open_number}
-use Rattle.accepted_take.proofs.AcceptedGroup.{accepted_sums}
-use Rattle.accepted_take.specs.RayGroup.{RayGroup}
-use Rattle.accepted_take.specs.TakenLists.{sum_lengths}
+use Rattle.sweep_checks.proofs.AcceptedSums.{accepted_sums}
+use Rattle.sweep_checks.specs.RayGroup.{RayGroup}
 use Rattle.sweep.specs.declared.Sweep.{Sweep}
-use Rattle.sweep.specs.declared.Swept.TheVariants.{State}
-use Rattle.sweep.specs.SweepOperations.{swept_answer, open_refusal, opened, Opens}
+use Rattle.sweep.specs.SweepOperations.{open_refusal, opened, Opens}
 use Rattle.sweep_laws.specs.SweepSequence.{SweepLists, Held, held_from, Call, Sixteen, Sequence, held_after, no_rays, accepted_rays, whole_scan, NotRefusedBy, accepted_with, handed_on}
 use Rattle.sweep_laws.specs.WholeSweep.{WholeSweep, AsTallied}
 use Rattle.sweep_laws.proofs.JoinedRays.{told_length}
@@ -67,7 +65,7 @@ module _ {head : ScanHead} {lengths azimuths qualities : Bool} (numbers : Accept
       ∙ placed_total (whole_scan head rays) refl (cells_most head numbers.grid_passes)
 
   -- where gates of the accepted rays stand, the lists hold what was written
-  told_at : (tell : Placement → ℕ) (list : List ℕ) → length rays.azimuths * head.gates ≤ length list → (k : ℕ) → k < gates_of (whole_scan head rays).head → get_or (sets list 0 (told_so_far tell head rays)) k 0 ≡ get_or (told_so_far tell head rays) k 0
+  told_at : (tell : PlaceAnswer → ℕ) (list : List ℕ) → length rays.azimuths * head.gates ≤ length list → (k : ℕ) → k < gates_of (whole_scan head rays).head → get_or (sets list 0 (told_so_far tell head rays)) k 0 ≡ get_or (told_so_far tell head rays) k 0
   unfolding whole_scan gates_of
   told_at tell list room k h =
       let so_many = told_length tell head head.gates rays.azimuths in
@@ -104,12 +102,11 @@ after_calls {rays = rays} {held = held} (call ∷ calls) so_far (this, others) =
 
 -- ---- from an accepted opening
 
-module _ (head : ScanHead) (lent : SweepLists) (sums : Sums) (sweep : Sweep) (opens : Opens head (record { entry = lent.tally.sums; exit = sums }) (State sweep)) where
+module _ (head : ScanHead) (lent : SweepLists) (sums : Sums) (sweep : Sweep) (opens : Opens head (record { entry = lent.tally.sums; exit = sums }) (Ok sweep)) where
   told : (open_refusal head lent.tally.sums ≡ 0) × (sweep ≡ opened head)
-  unfolding swept_answer
   told = given_is (open_refusal head lent.tally.sums) opens.the_answer
 
-  numbers : AcceptedNumbers head (sums_accepted head (sum_lengths lent.tally.sums)) true true
+  numbers : AcceptedNumbers head (sums_accepted head lent.tally.sums) true true
   unfolding open_refusal open_number
   numbers = accepted_numbers head _ _ _ told.0
 
@@ -159,7 +156,7 @@ module _ (head : ScanHead) (lent : SweepLists) (sums : Sums) (sweep : Sweep) (op
         rw (le-leb 1 (length rays.azimuths) (omega arith), le-leb (length rays.azimuths) 720 good.rays_most, numbers.gates_accepted, numbers.centres_pass, numbers.site_passes, numbers.grid_passes, exact, good.azimuths_good, good.qualities_good)
 
     -- so whatever `tally` is lent for that scan, of exact lengths, it leaves what the caller holds
-    pub as_tallied : (length (accepted_rays no_rays calls).azimuths ≡ 0 → ⊥) → (lists : Both Lists Lists) (answer : Outcome) → lists_exact (whole_scan head (accepted_rays no_rays calls)) lists.entry ≡ true → Tallies (whole_scan head (accepted_rays no_rays calls)) lists answer → AsTallied head lent (held_after (held_from sweep lent sums) calls) lists.exit
+    pub as_tallied : (length (accepted_rays no_rays calls).azimuths ≡ 0 → ⊥) → (lists : Both Lists Lists) (answer : Result (Unit {0}) Refusal) → lists_exact (whole_scan head (accepted_rays no_rays calls)) lists.entry ≡ true → Tallies (whole_scan head (accepted_rays no_rays calls)) lists answer → AsTallied head lent (held_after (held_from sweep lent sums) calls) lists.exit
     as_tallied some lists answer exact tallies =
         let same = filled_is lists.entry (whole_accepted some lists.entry exact) tallies.the_lists in
         let sheet = ap (published_cells head.weighting) (sym whole_sweep.the_sums) ∙ whole_sweep.either_sheet head.weighting in

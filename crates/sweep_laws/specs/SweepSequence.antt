@@ -1,15 +1,16 @@
 -- Document 02, T-01: a sequence of operations from an accepted opening, in which the caller hands on the latest state and untouched lists, and
 -- the whole scan made of the rays that were accepted. Assumes nothing.
-use Rattle.std.specs.Prelude.{true, List, [], ◌∷◌, ◌++◌, ◌≡◌, ℕ, leb, length}
+use Rattle.std.specs.Prelude.{true, List, [], ◌∷◌, ◌++◌, ◌≡◌, ℕ, leb, length, Result, Ok, Err}
 use Rattle.arithmetic.specs.Places.{all_of}
+use Rattle.refusal.specs.declared.numbered.Refusal.{Refusal}
+use Rattle.refusal.specs.Answer.{refuses}
+use Rattle.refusal.specs.Numbered.{answer_of}
 use Rattle.tally.specs.LentSums.{Sums, Cells}
 use Rattle.scan.specs.declared.head.ScanHead.{ScanHead}
 use Rattle.scan.specs.LentLists.{Lists}
 use Rattle.scan.specs.Scan.{Scan}
-use Rattle.accepted_take.specs.RayGroup.{RayGroup}
+use Rattle.sweep_checks.specs.RayGroup.{RayGroup}
 use Rattle.sweep.specs.declared.Sweep.{Sweep}
-use Rattle.sweep.specs.declared.Swept.{Swept}
-use Rattle.sweep.specs.declared.Swept.TheVariants.{State, Refused}
 use Rattle.sweep.specs.SweepOperations.{Takes, Closes}
 
 -- ---- what the caller holds
@@ -33,13 +34,13 @@ held_from sweep lent sums = record {
 -- ---- calls: what is given, what is answered, and the lists afterwards
 
 pub data Call : Type 0 where
-  takes : RayGroup → Swept → Lists → Call
-  closes : Swept → Cells → Call
+  takes : RayGroup → Result Sweep Refusal → Lists → Call
+  closes : Result Sweep Refusal → Cells → Call
 
 -- a refusal gives its number only, and the state before it is the latest
-unfoldable pub latest : Sweep → Swept → Sweep
-latest before (State sweep) = sweep
-latest before (Refused number) = before
+unfoldable pub latest : Sweep → Result Sweep Refusal → Sweep
+latest before (Ok sweep) = sweep
+latest before (Err refusal) = before
 
 unfoldable pub handed_on : Held → Call → Held
 handed_on held (takes group answer lists) = record {
@@ -84,8 +85,8 @@ joined before group = record {
 }
 
 unfoldable pub accepted_with : RayGroup → Call → RayGroup
-accepted_with before (takes group (State sweep) lists) = joined before group
-accepted_with before (takes group (Refused number) lists) = before
+accepted_with before (takes group (Ok sweep) lists) = joined before group
+accepted_with before (takes group (Err refusal) lists) = before
 accepted_with before (closes answer cells) = before
 
 unfoldable pub accepted_rays : RayGroup → List Call → RayGroup
@@ -113,5 +114,5 @@ whole_scan head rays = record {
 
 unfoldable pub NotRefusedBy : ℕ → List Call → Type 0
 NotRefusedBy number [] = Unit {0}
-NotRefusedBy number (takes group answer lists ∷ calls) = (answer ≡ Refused number → ⊥) × NotRefusedBy number calls
-NotRefusedBy number (closes answer cells ∷ calls) = (answer ≡ Refused number → ⊥) × NotRefusedBy number calls
+NotRefusedBy number (takes group answer lists ∷ calls) = (answer_of answer ≡ refuses number → ⊥) × NotRefusedBy number calls
+NotRefusedBy number (closes answer cells ∷ calls) = (answer_of answer ≡ refuses number → ⊥) × NotRefusedBy number calls

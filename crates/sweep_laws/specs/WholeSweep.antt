@@ -11,7 +11,7 @@ use Rattle.accepted_tally.specs.TalliedLists.{tallied_lists}
 use Rattle.scan_laws.specs.Placed.{placed_of}
 use Rattle.scan_laws.specs.ExactCount.{ExactByMarks}
 use Rattle.scan_laws.specs.TallyPublished.{scan_cells}
-use Rattle.accepted_take.specs.RayGroup.{RayGroup}
+use Rattle.sweep_checks.specs.RayGroup.{RayGroup}
 use Rattle.sweep_laws.specs.SweepSequence.{SweepLists, Held, whole_scan}
 
 -- by document 01's rules

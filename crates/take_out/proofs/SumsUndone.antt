@@ -1,10 +1,13 @@
 -- A turn of the loop that takes gates out, for the four lists. Assumes nothing.
 use mathlib.Core.Path.{◌≡◌, refl, sym, ap, ◌∙◌}
+use mathlib.Core.Bool.{true, false}
 use mathlib.Core.List.{List}
-use Prim.Native.Nat.{ℕ, ◌+◌, ◌-◌, ◌<◌, ◌≤◌}
+use Prim.Native.Nat.{ℕ, ◌+◌, ◌<◌, ◌≤◌}
 use native.Mathlib.Omega.{arith}
-use lib.ListN.{length, length-set, set, get_or}
-use Rattle.tally.specs.Gates.{echo_of, weighted_echo}
+use lib.ListN.{length, length-set, get_or}
+use Rattle.tally.specs.declared.cell_sums.CellSums.{CellSums}
+use Rattle.tally.specs.CellSums.{HasGate, cell_of, gate_added, with_cell}
+use Rattle.tally.specs.Gates.{is_measured, echo_of, weighted_echo}
 use Rattle.tally.specs.LentSums.{Sums}
 use Rattle.tally.specs.Tally.{added_first, added_sums}
 use Rattle.take_out.specs.TakeOutRoom.{AddedBefore}
@@ -93,49 +96,46 @@ module _ {ledger values qualities : List ℕ} where
           (out_no_cell u.value_sums_held k last (omega (arith, u.value_cells_length)))
           (out_no_cell u.weighted_sums_held k last (omega (arith, u.weighted_cells_length)))
 
-      pub undone_unmeasured : get_or values k 0 ≡ 65535 → Undone ledger values qualities k sums₀ sums
+      pub undone_unmeasured : is_measured (get_or values k 0) ≡ false → Undone ledger values qualities k sums₀ sums
       undone_unmeasured h =
           nothing_out (out_unmeasured u.counts_held k last h) (out_unmeasured u.quality_sums_held k last h) (out_unmeasured u.value_sums_held k last h) (out_unmeasured u.weighted_sums_held k last h)
 
-      module _ (h : get_or ledger k 0 < length sums.counts) (m : get_or values k 0 ≡ 65535 → ⊥) where
-        pub count_there : 1 ≤ get_or sums.counts (get_or ledger k 0) 0
-        count_there = share_there u.counts_held k last (omega (arith, u.cells_length)) m refl
+      module _ (h : get_or ledger k 0 < length sums.counts) where
+        module _ (m : is_measured (get_or values k 0) ≡ true) where
+          pub gate_there : HasGate (cell_of sums (get_or ledger k 0)) (get_or values k 0) (get_or qualities k 0)
+          gate_there = record {
+            in_count = share_there u.counts_held k last (omega (arith, u.cells_length)) m refl;
+            in_quality_sum = share_there u.quality_sums_held k last (omega (arith, u.quality_cells_length)) m refl;
+            in_value_sum = share_there u.value_sums_held k last (omega (arith, u.value_cells_length)) m refl;
+            in_weighted_sum = share_there u.weighted_sums_held k last (omega (arith, u.weighted_cells_length)) m refl;
+          }
 
-        pub quality_there : get_or qualities k 0 ≤ get_or sums.quality_sums (get_or ledger k 0) 0
-        quality_there = share_there u.quality_sums_held k last (omega (arith, u.quality_cells_length)) m refl
-
-        pub value_there : echo_of (get_or values k 0) ≤ get_or sums.value_sums (get_or ledger k 0) 0
-        value_there = share_there u.value_sums_held k last (omega (arith, u.value_cells_length)) m refl
-
-        pub weighted_there : weighted_echo (get_or values k 0) (get_or qualities k 0) ≤ get_or sums.weighted_sums (get_or ledger k 0) 0
-        weighted_there = share_there u.weighted_sums_held k last (omega (arith, u.weighted_cells_length)) m refl
-
-        pub undone_measured : {x y : ℕ} → x ≡ echo_of (get_or values k 0) → y ≡ weighted_echo (get_or values k 0) (get_or qualities k 0) → let cell = get_or ledger k 0 in Undone ledger values qualities k sums₀ (record { counts = set sums.counts cell (get_or sums.counts cell 0 - 1); quality_sums = set sums.quality_sums cell (get_or sums.quality_sums cell 0 - get_or qualities k 0); value_sums = set sums.value_sums cell (get_or sums.value_sums cell 0 - x); weighted_sums = set sums.weighted_sums cell (get_or sums.weighted_sums cell 0 - y) })
-        undone_measured {x} {y} p r =
-            let cell = get_or ledger k 0 in
-            let counts = length-set sums.counts cell (get_or sums.counts cell 0 - 1) in
-            let quality-sums = length-set sums.quality_sums cell (get_or sums.quality_sums cell 0 - get_or qualities k 0) in
-            let value-sums = length-set sums.value_sums cell (get_or sums.value_sums cell 0 - x) in
-            let weighted-sums = length-set sums.weighted_sums cell (get_or sums.weighted_sums cell 0 - y) in
-            record {
-              before = u.before;
-              added_then = u.added_then;
-              counts_held = out_measured u.counts_held k last (omega (arith, u.cells_length)) m refl;
-              quality_sums_held = out_measured u.quality_sums_held k last (omega (arith, u.quality_cells_length)) m refl;
-              value_sums_held = out_measured u.value_sums_held k last (omega (arith, u.value_cells_length)) m p;
-              weighted_sums_held = out_measured u.weighted_sums_held k last (omega (arith, u.weighted_cells_length)) m r;
-              cells_length = u.cells_length ∙ sym counts;
-              quality_cells_length = u.quality_cells_length ∙ sym counts;
-              value_cells_length = u.value_cells_length ∙ sym counts;
-              weighted_cells_length = u.weighted_cells_length ∙ sym counts;
-              quality_sums_length = quality-sums ∙ u.quality_sums_length ∙ sym counts;
-              value_sums_length = value-sums ∙ u.value_sums_length ∙ sym counts;
-              weighted_sums_length = weighted-sums ∙ u.weighted_sums_length ∙ sym counts;
-              same_counts = counts ∙ u.same_counts;
-              same_quality_sums = quality-sums ∙ u.same_quality_sums;
-              same_value_sums = value-sums ∙ u.same_value_sums;
-              same_weighted_sums = weighted-sums ∙ u.same_weighted_sums;
-            }
+          pub undone_measured : (less : CellSums) → cell_of sums (get_or ledger k 0) ≡ gate_added less (get_or values k 0) (get_or qualities k 0) → Undone ledger values qualities k sums₀ (with_cell sums (get_or ledger k 0) less)
+          undone_measured less e =
+              let cell = get_or ledger k 0 in
+              let counts = length-set sums.counts cell less.count in
+              let quality-sums = length-set sums.quality_sums cell less.quality_sum in
+              let value-sums = length-set sums.value_sums cell less.value_sum in
+              let weighted-sums = length-set sums.weighted_sums cell less.weighted_sum in
+              record {
+                before = u.before;
+                added_then = u.added_then;
+                counts_held = out_measured u.counts_held k last (omega (arith, u.cells_length)) m refl _ (ap (λ (c : CellSums). c.count) e);
+                quality_sums_held = out_measured u.quality_sums_held k last (omega (arith, u.quality_cells_length)) m refl _ (ap (λ (c : CellSums). c.quality_sum) e);
+                value_sums_held = out_measured u.value_sums_held k last (omega (arith, u.value_cells_length)) m refl _ (ap (λ (c : CellSums). c.value_sum) e);
+                weighted_sums_held = out_measured u.weighted_sums_held k last (omega (arith, u.weighted_cells_length)) m refl _ (ap (λ (c : CellSums). c.weighted_sum) e);
+                cells_length = u.cells_length ∙ sym counts;
+                quality_cells_length = u.quality_cells_length ∙ sym counts;
+                value_cells_length = u.value_cells_length ∙ sym counts;
+                weighted_cells_length = u.weighted_cells_length ∙ sym counts;
+                quality_sums_length = quality-sums ∙ u.quality_sums_length ∙ sym counts;
+                value_sums_length = value-sums ∙ u.value_sums_length ∙ sym counts;
+                weighted_sums_length = weighted-sums ∙ u.weighted_sums_length ∙ sym counts;
+                same_counts = counts ∙ u.same_counts;
+                same_quality_sums = quality-sums ∙ u.same_quality_sums;
+                same_value_sums = value-sums ∙ u.same_value_sums;
+                same_weighted_sums = weighted-sums ∙ u.same_weighted_sums;
+              }
 
     -- all gates are out
     pub undone_all : n ≡ 0 → sums₀ ≡ added_sums ledger values qualities sums

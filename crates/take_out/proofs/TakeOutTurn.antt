@@ -1,10 +1,12 @@
 -- A turn of the loop that takes gates out, for one list, over the share that a gate gives to its cell. Assumes nothing.
 use mathlib.Core.Path.{◌≡◌, sym, ap, ◌∙◌}
+use mathlib.Core.Bool.{true, false}
 use mathlib.Core.List.{List}
-use Prim.Native.Nat.{ℕ, ◌+◌, ◌-◌, ◌<◌, ◌≤◌}
+use Prim.Native.Nat.{ℕ, ◌+◌, ◌<◌, ◌≤◌}
 use native.Mathlib.Omega.{arith}
 use lib.ListN.{length, length-set, set, get_or}
 use Rattle.arithmetic.proofs.Places.{table_set}
+use Rattle.tally.specs.Gates.{is_measured}
 use Rattle.tally.specs.Tally.{sum_over, added}
 use Rattle.tally.proofs.TallyTurn.{added_length, added_at, one_more, none_added, to_its_cell, to_no_other, nothing_added, given_outside, given_unmeasured}
 
@@ -27,13 +29,13 @@ module _ {ledger values qualities : List ℕ} {share : ℕ → ℕ → ℕ} {n :
     cell_sums = held ∙ sym (nothing_added ledger values qualities share k before (given_outside ledger values qualities share k (length before) h));
   }
 
-  pub out_unmeasured : get_or values k 0 ≡ 65535 → Holding ledger values qualities share k before l
+  pub out_unmeasured : is_measured (get_or values k 0) ≡ false → Holding ledger values qualities share k before l
   out_unmeasured h = record {
     cells_length = s.cells_length;
     cell_sums = held ∙ sym (nothing_added ledger values qualities share k before (λ cell i. given_unmeasured ledger values qualities share k h cell));
   }
 
-  module _ {x : ℕ} (h : get_or ledger k 0 < length before) (m : get_or values k 0 ≡ 65535 → ⊥) (p : x ≡ share (get_or values k 0) (get_or qualities k 0)) where
+  module _ {x : ℕ} (h : get_or ledger k 0 < length before) (m : is_measured (get_or values k 0) ≡ true) (p : x ≡ share (get_or values k 0) (get_or qualities k 0)) where
     cell_holds : get_or l (get_or ledger k 0) 0 ≡ get_or before (get_or ledger k 0) 0 + sum_over ledger values qualities share k (get_or ledger k 0) + x
     cell_holds =
         let cell = get_or ledger k 0 in
@@ -44,17 +46,17 @@ module _ {ledger values qualities : List ℕ} {share : ℕ → ℕ → ℕ} {n :
     pub share_there : x ≤ get_or l (get_or ledger k 0) 0
     share_there = omega (arith, cell_holds)
 
-    pub out_measured : Holding ledger values qualities share k before (set l (get_or ledger k 0) (get_or l (get_or ledger k 0) 0 - x))
+    pub out_measured : (less : ℕ) → get_or l (get_or ledger k 0) 0 ≡ less + x → Holding ledger values qualities share k before (set l (get_or ledger k 0) less)
     unfolding added
-    out_measured =
+    out_measured less e =
         let cell = get_or ledger k 0 in
         let one = one_more ledger values qualities share k in
         record {
           cells_length = length-set l cell _ ∙ s.cells_length;
           cell_sums =
-              ap (λ (list : List ℕ). set list cell (get_or l cell 0 - x)) held
+              ap (λ (list : List ℕ). set list cell less) held
               ∙ table_set _ _ (length before) cell _
-              (omega (arith, cell_holds))
+              (omega (arith, cell_holds, e))
               (λ other b r. omega (arith, one other, to_no_other ledger values qualities share k other r));
         }
 

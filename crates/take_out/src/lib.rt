@@ -2,42 +2,28 @@
 #![tactic(auto)]
 
 ghost use Rattle.std.specs.Prelude.{◌≡◌};
-ghost use Rattle.tally.specs.LentSums.{sums_held, lent_sums};
+ghost use Rattle.tally.specs.LentSums.{KeepsSums, lent_sums, sums_in};
 ghost use Rattle.tally.specs.Tally.{added_sums};
 ghost use Rattle.take_out.specs.TakeOutRoom.{AddedBefore};
 
-use tally::{echo_of, weighted_echo};
+use tally::{Gates, SumsMut, is_measured};
 
 // Leaves the sums onto which these gates were added: with the gates added, they are what came in. The gate that was added last goes first.
 // For our own crates: they have added the gates.
-pub fn take_out_gates(
-    ledger: &[u32],
-    values: &[u16],
-    qualities: &[u8],
-    counts: &mut [u32],
-    quality_sums: &mut [u32],
-    value_sums: &mut [u64],
-    weighted_sums: &mut [u64],
-)
-    requires { AddedBefore ledger.now values.now qualities.now (sums_held counts.old quality_sums.old value_sums.old weighted_sums.old) }
-    ensures { let sums = lent_sums counts quality_sums value_sums weighted_sums in
-        sums.entry ≡ added_sums ledger.now values.now qualities.now sums.exit }
+pub fn take_out_gates(gates: Gates<'_>, sums: &mut SumsMut<'_>)
+    requires { AddedBefore gates.ledger.now gates.values.now gates.qualities.now (sums_in sums.old) }
+    ensures kept { KeepsSums sums.old sums.new }
+    ensures taken_out { let held = lent_sums sums in
+        held.entry ≡ added_sums gates.entry.ledger.now gates.entry.values.now gates.entry.qualities.now held.exit }
 {
-    let mut k = ledger.len();
-    while 0 < k {
-        k -= 1;
-        let cell = ledger[k] as usize;
-        let value = values[k];
-        let quality = qualities[k];
-        if counts.len() <= cell {
+    // Kept: by its index, since the new form is no plainer: ((entry, value), quality) of two zips, reversed.
+    for k in (0..gates.ledger.len()).rev() {
+        let cell = gates.ledger[k] as usize;
+        let value = gates.values[k];
+        if sums.counts.len() <= cell || !is_measured(value) {
             continue;
         }
-        if value == 65535 {
-            continue;
-        }
-        counts[cell] = counts[cell] - 1;
-        quality_sums[cell] = quality_sums[cell] - quality as u32;
-        value_sums[cell] = value_sums[cell] - echo_of(value);
-        weighted_sums[cell] = weighted_sums[cell] - weighted_echo(value, quality);
+        let less = sums.cell(cell).without_gate(value, gates.qualities[k]);
+        sums.set_cell(cell, less);
     }
 }

@@ -15,10 +15,6 @@ use Rattle.tally.specs.Tally.{contributes, sum_over, added}
 use Rattle.tally.specs.Width.{within}
 use Rattle.tally.proofs.WidthLaws.{within_true, within_false, set_small}
 
-pub is_measured_lem : (value : ℕ) → (value ≡ 65535 → ⊥) → is_measured value ≡ true
-unfolding is_measured
-is_measured_lem value h = rw (ne_eqb value 65535 h)
-
 -- each place of a list with a share added
 module _ (share : ℕ → ℕ) (held : List ℕ) where
   pub added_length : length (added share held) ≡ length held
@@ -49,9 +45,9 @@ module _ (ledger values qualities : List ℕ) (share : ℕ → ℕ → ℕ) wher
   none cell = refl
 
   -- a measured gate gives its share to its own cell, and nothing to any other
-  pub to_its_cell : (k : ℕ) → (get_or values k 0 ≡ 65535 → ⊥) → given (get_or ledger k 0) k ≡ share (get_or values k 0) (get_or qualities k 0)
+  pub to_its_cell : (k : ℕ) → is_measured (get_or values k 0) ≡ true → given (get_or ledger k 0) k ≡ share (get_or values k 0) (get_or qualities k 0)
   unfolding given contributes
-  to_its_cell k m = rw (eq-eqb (get_or ledger k 0) (get_or ledger k 0) refl, is_measured_lem (get_or values k 0) m)
+  to_its_cell k m = rw (eq-eqb (get_or ledger k 0) (get_or ledger k 0) refl, m)
 
   pub to_no_other : (k other : ℕ) → (other ≡ get_or ledger k 0 → ⊥) → given other k ≡ 0
   unfolding given contributes
@@ -75,9 +71,9 @@ module _ (ledger values qualities : List ℕ) (share : ℕ → ℕ → ℕ) wher
   unfolding given contributes
   given_outside k cells h cell i = rw (ne_eqb (get_or ledger k 0) cell (λ q. omega arith))
 
-  pub given_unmeasured : (k : ℕ) → get_or values k 0 ≡ 65535 → (cell : ℕ) → given cell k ≡ 0
-  unfolding given contributes is_measured
-  given_unmeasured k h cell = rw (eq-eqb (get_or values k 0) 65535 h) (never (eqb (get_or ledger k 0) cell))
+  pub given_unmeasured : (k : ℕ) → is_measured (get_or values k 0) ≡ false → (cell : ℕ) → given cell k ≡ 0
+  unfolding given contributes
+  given_unmeasured k h cell = rw h (never (eqb (get_or ledger k 0) cell))
     where
       never : (t : Bool) → cond (t && false) (share (get_or values k 0) (get_or qualities k 0)) 0 ≡ 0
       never true = refl
@@ -113,13 +109,13 @@ module _ {ledger values qualities : List ℕ} {share : ℕ → ℕ → ℕ} {mos
   pub no_cell : length held ≤ get_or ledger k 0 → SumsAfter ledger values qualities share most (k + 1) held l
   no_cell h = nothing_given (given_outside ledger values qualities share k (length held) h)
 
-  pub unmeasured : get_or values k 0 ≡ 65535 → SumsAfter ledger values qualities share most (k + 1) held l
+  pub unmeasured : is_measured (get_or values k 0) ≡ false → SumsAfter ledger values qualities share most (k + 1) held l
   unmeasured h = nothing_given (λ cell i. given_unmeasured ledger values qualities share k h cell)
 
   cell_holds : (cell : ℕ) → cell < length held → get_or l cell 0 ≡ get_or held cell 0 + sum_over ledger values qualities share k cell
   cell_holds cell h = ap (λ (list : List ℕ). get_or list cell 0) s.cell_sums ∙ added_at _ held cell h
 
-  module _ {x : ℕ} (h : get_or ledger k 0 < length held) (m : get_or values k 0 ≡ 65535 → ⊥) (p : x ≡ share (get_or values k 0) (get_or qualities k 0)) where
+  module _ {x : ℕ} (h : get_or ledger k 0 < length held) (m : is_measured (get_or values k 0) ≡ true) (p : x ≡ share (get_or values k 0) (get_or qualities k 0)) where
     -- a measured gate of a cell, with room for its share
     pub measured : get_or l (get_or ledger k 0) 0 + x ≤ most → SumsAfter ledger values qualities share most (k + 1) held (set l (get_or ledger k 0) (get_or l (get_or ledger k 0) 0 + x))
     unfolding added

@@ -1,16 +1,21 @@
 -- Sums within their widths: of one cell with a gate more, and of all cells. Assumes nothing.
 use mathlib.Core.Path.{◌≡◌, refl, sym, ◌∙◌}
-use mathlib.Core.Bool.{Bool, true, false, not, ◌&&◌}
+use mathlib.Core.Bool.{Bool, true, false, ◌&&◌}
 use mathlib.Core.List.{List, [], ◌∷◌}
 use Prim.Native.Nat.{ℕ, zero, suc, ◌+◌, ◌<◌, ◌≤◌}
 use native.Mathlib.Nat.{le_antisymm}
 use native.Mathlib.Omega.{arith}
-use borrow.Author.Tests.{eq-eqb, ne_eqb, leb-true, le-leb, lt-leb, not-true, not-false}
+use borrow.Author.Tests.{eq-eqb, ne_eqb, le-leb, lt-leb}
 use lib.Dec.{eqb, leb}
 use lib.ListN.{length, set, get_or}
 use Rattle.arithmetic.proofs.Places.{all_true, all_false}
-use Rattle.arithmetic.proofs.Test.{and_true, and_false}
+use Rattle.arithmetic.proofs.Test.{and_false}
 use Rattle.tally.specs.LentSums.{Sums}
+use Rattle.std.proofs.Common.{Some, None}
+use Rattle.std.proofs.lemmas.Bool.Decides.{nat_tests}
+use Rattle.tally.specs.declared.cell_sums.CellSums.{CellSums}
+use Rattle.tally.specs.CellSums.{gate_added, with_gate}
+use Rattle.tally.specs.Gates.{echo_of, weighted_echo}
 use Rattle.tally.specs.Width.{most32, most64, within, fit_widths, has_room}
 
 -- ---- one list
@@ -44,30 +49,29 @@ one_fails true b {x} {y} f g e = rw (g e) (and_false x)
 
 -- ---- the room that a gate has
 
-pub record Room (count qualitySum valueSum weightedSum quality echo weighted : ℕ) : Type 0 where
-  pub count_room : count + 1 ≤ most32
-  pub quality_room : qualitySum + quality ≤ most32
-  pub value_room : valueSum + echo ≤ most64
-  pub weighted_room : weightedSum + weighted ≤ most64
+pub record Room (sums : CellSums) (value quality : ℕ) : Type 0 where
+  pub count_room : sums.count + 1 ≤ most32
+  pub quality_room : sums.quality_sum + quality ≤ most32
+  pub value_room : sums.value_sum + echo_of value ≤ most64
+  pub weighted_room : sums.weighted_sum + weighted_echo value quality ≤ most64
 
-pub room : {count qualitySum valueSum weightedSum quality echo weighted : ℕ} {r : Bool} → r ≡ has_room count qualitySum valueSum weightedSum quality echo weighted → not r ≡ false → Room count qualitySum valueSum weightedSum quality echo weighted
-unfolding has_room
-room e t =
-    let first = and_true _ _ (sym e ∙ not-false _ t) in
-    let second = and_true _ _ first.1 in
-    let third = and_true _ _ second.1 in
-    record {
-      count_room = leb-true _ _ first.0;
-      quality_room = leb-true _ _ second.0;
-      value_room = leb-true _ _ third.0;
-      weighted_room = leb-true _ _ third.1;
-    }
+pub room : (sums added : CellSums) (value quality : ℕ) → Some added ≡ with_gate sums value quality → Room sums value quality
+unfolding with_gate has_room
+room sums added value quality e = record {
+  count_room = grind (arith, nat_tests, e);
+  quality_room = grind (arith, nat_tests, e);
+  value_room = grind (arith, nat_tests, e);
+  weighted_room = grind (arith, nat_tests, e);
+}
+
+pub is_added : (sums added : CellSums) (value quality : ℕ) → Some added ≡ with_gate sums value quality → added ≡ gate_added sums value quality
+unfolding with_gate
+is_added sums added value quality e = grind (arith, nat_tests, e)
 
 -- a gate that has none: a list passes its width
-pub no_room : (count qualitySum valueSum weightedSum quality echo weighted : ℕ) (sums : Sums) {r : Bool} → r ≡ has_room count qualitySum valueSum weightedSum quality echo weighted → not r ≡ true → (leb (count + 1) most32 ≡ false → within most32 sums.counts ≡ false) → (leb (qualitySum + quality) most32 ≡ false → within most32 sums.quality_sums ≡ false) → (leb (valueSum + echo) most64 ≡ false → within most64 sums.value_sums ≡ false) → (leb (weightedSum + weighted) most64 ≡ false → within most64 sums.weighted_sums ≡ false) → fit_widths sums ≡ false
-unfolding has_room fit_widths
-no_room count qualitySum valueSum weightedSum quality echo weighted sums e t f g h j =
-    one_fails _ _ f (one_fails _ _ g (one_fails _ _ h j)) (sym e ∙ not-true _ t)
+pub no_room : (cell : CellSums) (value quality : ℕ) (sums : Sums) → None ≡ with_gate cell value quality → (leb (cell.count + 1) most32 ≡ false → within most32 sums.counts ≡ false) → (leb (cell.quality_sum + quality) most32 ≡ false → within most32 sums.quality_sums ≡ false) → (leb (cell.value_sum + echo_of value) most64 ≡ false → within most64 sums.value_sums ≡ false) → (leb (cell.weighted_sum + weighted_echo value quality) most64 ≡ false → within most64 sums.weighted_sums ≡ false) → fit_widths sums ≡ false
+unfolding with_gate has_room fit_widths
+no_room cell value quality sums e f g h j = grind (arith, nat_tests, e, f, g, h, j)
 
 -- ---- the number of gates that were added says whether all were
 

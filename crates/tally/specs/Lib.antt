@@ -2,4 +2,5 @@ pub mod Gates
 pub mod LentSums
 pub mod Tally
 pub mod Width
+pub mod CellSums
 pub mod TallyRoom

@@ -1,11 +1,14 @@
 // What the gates give to their cells: counts and sums.
 #![tactic(auto)]
 
+mod cell_sums;
 mod clear;
 mod gates;
-mod room;
+mod lists;
 mod tally_gates;
+mod widths;
 
-pub use clear::clear_sums;
-pub use gates::{echo_of, weighted_echo};
-pub use tally_gates::add_gates;
+pub use cell_sums::CellSums;
+pub use gates::{echo_of, is_measured, weighted_echo};
+pub use lists::{CellsMut, Gates, SumsMut, SumsRef};
+pub use widths::fit_16_bits;

@@ -1,3 +1,3 @@
 pub mod DecimalLaws
-pub mod StoredDigits
 pub mod StoredLaws
+pub mod SignedText

@@ -3,8 +3,6 @@
 
 mod decimal;
 mod fields;
-mod refused;
+mod text;
 
-pub use decimal::put_word;
-pub use fields::{put_integer, put_number, put_text};
-pub use refused::put_refused;
+pub use text::Text;

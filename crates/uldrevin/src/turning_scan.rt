@@ -1,8 +1,16 @@
 // A scan whose rays are fed while the antenna turns. The answer is 0, with the state and the lent lists written, or the refusal number, with all
 // of them as they came in.
+ghost use Rattle.tally.specs.LentSums.{sums_held};
+ghost use Rattle.scan.specs.LentLists.{lent_apart};
+ghost use Rattle.sweep_checks.specs.RayGroup.{group_held};
+ghost use Rattle.c_structs.specs.Structs.{head_of};
+ghost use Rattle.c_answers.specs.LentNumbers.{sums_apart, cells_apart};
 ghost use Rattle.c_sweep_calls.specs.SweepCalls.{OpensSweep, TakesRays, ClosesSweep};
 
+use c_answers::refusal_number;
 use c_sweep_calls::{answer_close, answer_open, answer_take};
+use scan::{ListsMut, Rays};
+use tally::{CellsMut, SumsMut, SumsRef};
 
 #[unsafe(no_mangle)]
 pub extern "C" fn uldrevin_sweep_open(
@@ -13,11 +21,21 @@ pub extern "C" fn uldrevin_sweep_open(
     weighted_sums: &mut [u64],
     sweep: &mut [i64; 15],
 ) -> u32
-    ensures { OpensSweep scan.now counts quality_sums value_sums weighted_sums sweep result }
+    ensures { OpensSweep (head_of scan.now) (sums_apart counts quality_sums value_sums weighted_sums) sweep result }
 {
-    answer_open(scan, counts, quality_sums, value_sums, weighted_sums, sweep)
+    refusal_number(answer_open(
+        scan,
+        &mut SumsMut {
+            counts,
+            quality_sums,
+            value_sums,
+            weighted_sums,
+        },
+        sweep,
+    ))
 }
 
+// Kept: the C interface, where each list is a parameter of its own.
 #[unsafe(no_mangle)]
 pub extern "C" fn uldrevin_sweep_take(
     sweep: &mut [i64; 15],
@@ -31,22 +49,27 @@ pub extern "C" fn uldrevin_sweep_take(
     value_sums: &mut [u64],
     weighted_sums: &mut [u64],
 ) -> u32
-    ensures { TakesRays sweep azimuths.now values.now qualities.now ledger marks counts quality_sums value_sums weighted_sums result }
+    ensures { TakesRays sweep (group_held azimuths.now values.now qualities.now) (lent_apart ledger marks counts quality_sums value_sums weighted_sums) result }
 {
-    answer_take(
+    refusal_number(answer_take(
         sweep,
-        azimuths,
-        values,
-        qualities,
-        ledger,
-        marks,
-        counts,
-        quality_sums,
-        value_sums,
-        weighted_sums,
-    )
+        Rays {
+            azimuths,
+            values,
+            qualities,
+        },
+        &mut ListsMut {
+            ledger,
+            marks,
+            counts,
+            quality_sums,
+            value_sums,
+            weighted_sums,
+        },
+    ))
 }
 
+// Kept: the C interface, where each list is a parameter of its own.
 #[unsafe(no_mangle)]
 pub extern "C" fn uldrevin_sweep_close(
     sweep: &mut [i64; 15],
@@ -57,15 +80,19 @@ pub extern "C" fn uldrevin_sweep_close(
     means: &mut [u16],
     cell_qualities: &mut [u8],
 ) -> u32
-    ensures { ClosesSweep sweep counts.now quality_sums.now value_sums.now weighted_sums.now means cell_qualities result }
+    ensures { ClosesSweep sweep (sums_held counts.now quality_sums.now value_sums.now weighted_sums.now) (cells_apart means cell_qualities) result }
 {
-    answer_close(
+    refusal_number(answer_close(
         sweep,
-        counts,
-        quality_sums,
-        value_sums,
-        weighted_sums,
-        means,
-        cell_qualities,
-    )
+        SumsRef {
+            counts,
+            quality_sums,
+            value_sums,
+            weighted_sums,
+        },
+        &mut CellsMut {
+            means,
+            qualities: cell_qualities,
+        },
+    ))
 }

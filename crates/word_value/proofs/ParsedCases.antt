@@ -1,54 +1,29 @@
--- What a word is read as, case by case. Assumes nothing.
-use mathlib.Core.Path.{◌≡◌, refl, sym, ap, ◌∙◌}
-use mathlib.Core.Bool.{Bool, true, false, not}
+-- What a word is read as, with '-' in front and without. Assumes nothing.
+use mathlib.Core.Path.{◌≡◌, refl, sym, ◌∙◌}
+use mathlib.Core.Bool.{Bool, true, false}
 use mathlib.Core.List.{List, [], ◌∷◌}
-use Prim.Native.Nat.{ℕ, suc, ◌-◌, ◌≤◌}
-use native.Mathlib.Omega.{arith}
-use borrow.Author.Tests.{eq-eqb, ne_eqb, not-true, not-false}
-use lib.IntN.{ℤ, pos, neg_ℤ}
-use lib.ListN.{length, get_or, take, drop}
-use lib.Seq.{take_all}
-use Rattle.word_value.specs.declared.Parsed.TheVariants.{Number, Wrong}
+use Prim.Native.Nat.{ℕ}
+use borrow.Author.Rules.{rules}
+use lib.Dec.{eqb}
+use lib.IntN.{pos, neg_ℤ}
+use lib.ListN.{take, drop}
+use lib.Pointwise.{pointwise}
+use Rattle.arithmetic.specs.Places.{all_of}
 use Rattle.word_value.specs.WordValue.{is_natural, value_of, number_or, parsed}
 
--- ---- the bytes behind the first
+-- whether '-' stands in front, as `strip_prefix` tests it
+abbrev pub has_sign : List ℕ → Bool
+has_sign w = pointwise eqb (take 1 w) (45 ∷ [])
 
-abbrev pub behind : List ℕ → List ℕ
-behind w = take (length w - 1) (drop 1 w)
+pub sign_is : (b : ℕ) (w : List ℕ) → has_sign (b ∷ w) ≡ eqb b 45
+sign_is b w = search rules
 
--- a word with '-' in front
-signed_word : (w : List ℕ) → (length w ≡ 0 → ⊥) → get_or w 0 0 ≡ 45 → parsed w ≡ number_or (is_natural (behind w)) (neg_ℤ (pos (value_of (behind w))))
+pub signed_word : (w digits : List ℕ) → has_sign w ≡ true → digits ≡ drop 1 w → number_or (is_natural digits) (neg_ℤ (pos (value_of digits))) ≡ parsed w
 unfolding parsed
-signed_word [] p q = absurd (p refl)
-signed_word (b ∷ w) p q =
-    rw (eq-eqb b 45 q) (ap (λ (v : List ℕ). number_or (is_natural v) (neg_ℤ (pos (value_of v)))) (sym (take_all (length (b ∷ w) - 1) w (enough (length w)))))
-  where
-    enough : (n : ℕ) → n ≤ suc n - 1
-    enough n = omega arith
+signed_word [] digits s e = cc
+signed_word (b ∷ w) digits s e = rw (sym (sign_is b w) ∙ s, e)
 
--- and one with none
-pub plain_word : (w : List ℕ) → (length w ≡ 0 → ⊥) → (get_or w 0 0 ≡ 45 → ⊥) → parsed w ≡ number_or (is_natural w) (pos (value_of w))
-unfolding parsed
-plain_word [] p q = absurd (p refl)
-plain_word (b ∷ w) p q = rw (ne_eqb b 45 q)
-
-pub empty_word : (w : List ℕ) → length w ≡ 0 → Wrong ≡ parsed w
-unfolding parsed
-empty_word [] e = refl
-empty_word (b ∷ w) e = absurd (omega arith)
-
-pub wrong_negative : (w : List ℕ) (r : Bool) → (length w ≡ 0 → ⊥) → get_or w 0 0 ≡ 45 → r ≡ is_natural (behind w) → not r ≡ true → Wrong ≡ parsed w
-unfolding number_or
-wrong_negative w r p q e t = sym (signed_word w p q ∙ rw (← e, not-true r t))
-
-pub number_negative : (w : List ℕ) (r : Bool) (v : ℕ) (z : ℤ) → (length w ≡ 0 → ⊥) → get_or w 0 0 ≡ 45 → r ≡ is_natural (behind w) → not r ≡ false → v ≡ value_of (behind w) → z ≡ neg_ℤ (pos v) → Number z ≡ parsed w
-unfolding number_or
-number_negative w r v z p q e t s i = sym (signed_word w p q ∙ rw (← e, not-false r t, ← s, i))
-
-pub wrong_natural : (w : List ℕ) (r : Bool) → (length w ≡ 0 → ⊥) → (get_or w 0 0 ≡ 45 → ⊥) → r ≡ is_natural w → not r ≡ true → Wrong ≡ parsed w
-unfolding number_or
-wrong_natural w r p q e t = sym (plain_word w p q ∙ rw (← e, not-true r t))
-
-pub number_natural : (w : List ℕ) (r : Bool) (v : ℕ) (z : ℤ) → (length w ≡ 0 → ⊥) → (get_or w 0 0 ≡ 45 → ⊥) → r ≡ is_natural w → not r ≡ false → v ≡ value_of w → z ≡ pos v → Number z ≡ parsed w
-unfolding number_or
-number_natural w r v z p q e t s i = sym (plain_word w p q ∙ rw (← e, not-false r t, ← s, i))
+pub plain_word : (w : List ℕ) → has_sign w ≡ false → number_or (is_natural w) (pos (value_of w)) ≡ parsed w
+unfolding parsed number_or is_natural all_of
+plain_word [] s = refl
+plain_word (b ∷ w) s = rw (sym (sign_is b w) ∙ s)

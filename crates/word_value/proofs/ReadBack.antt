@@ -4,16 +4,17 @@ use mathlib.Core.Bool.{Bool, true}
 use mathlib.Core.List.{List, [], ◌∷◌, ◌++◌}
 use Prim.Native.Nat.{ℕ, zero, suc, ◌+◌, ◌*◌, ◌-◌, ◌/◌, ◌%◌, ◌^◌, ◌<◌, ◌≤◌}
 use native.Mathlib.Omega.{arith}
+use borrow.Author.Tests.{ne_eqb}
 use lib.IntN.{ℤ, pos, negsuc, nat_abs}
 use lib.ListN.{length}
 use Rattle.arithmetic.specs.Places.{all_of}
 use Rattle.arithmetic.proofs.Test.{and_true}
-use Rattle.word_value.specs.declared.Parsed.TheVariants.{Number}
+use Rattle.std.specs.Prelude.{Some}
 use Rattle.text.specs.DecimalText.{digit_of, decimal_with, decimal_of, signed_decimal_of}
 use Rattle.word_value.specs.WordValue.{is_digit, value_from, value_of, is_natural, number_or, parsed}
 use Rattle.text.proofs.DecimalLaws.{decimal_cases, decimal_most, decimal_length_least, quotient_below, places_enough}
 use Rattle.word_value.proofs.WordLaws.{digit_yes, digit_range, natural_is}
-use Rattle.word_value.proofs.ParsedCases.{plain_word}
+use Rattle.word_value.proofs.ParsedCases.{sign_is, plain_word}
 
 -- ---- each byte is a digit
 
@@ -77,9 +78,9 @@ unfolding all_of
 starts [] h e = absurd (omega arith)
 starts (b ∷ w) h e =
     let range = digit_range b (and_true (is_digit b) (all_of is_digit w) e).0 in
-    plain_word (b ∷ w) (λ q. omega arith) (λ q. omega (arith, range.0))
+    sym (plain_word (b ∷ w) (sign_is b w ∙ ne_eqb b 45 (λ q. omega (arith, range.0))))
 
-pub read_back : (z : ℤ) → nat_abs z < 10 ^ 18 → parsed (signed_decimal_of z) ≡ Number z
+pub read_back : (z : ℤ) → nat_abs z < 10 ^ 18 → parsed (signed_decimal_of z) ≡ Some z
 unfolding signed_decimal_of number_or parsed
 read_back (pos n) h =
     starts (decimal_of n) (decimal_length_least n) (digits n) ∙ rw (natural n h, value_of_decimal n (omega arith))

@@ -4,7 +4,7 @@ use mathlib.Core.List.{[], ◌∷◌}
 use lib.IntN.{pos, negsuc}
 use lib.ListN.{length}
 use Rattle.arithmetic.specs.Places.{all_of}
-use Rattle.word_value.specs.declared.Parsed.TheVariants.{Number, Wrong}
+use Rattle.std.specs.Prelude.{Some, None}
 use Rattle.text.specs.DecimalText.{digit_of, decimal_with, decimal_of, signed_decimal_of, line_of}
 use Rattle.word_value.specs.WordValue.{is_digit, value_from, value_of, is_natural, number_or, parsed}
 
@@ -24,21 +24,21 @@ unfolding decimal_of decimal_with digit_of
 largest = refl
 
 -- "-0"
-pub minus_nought : parsed (45 ∷ 48 ∷ []) ≡ Number (pos 0)
+pub minus_nought : parsed (45 ∷ 48 ∷ []) ≡ Some (pos 0)
 unfolding parsed number_or is_natural all_of is_digit value_of value_from
 minus_nought = refl
 
 -- "007"
-pub with_noughts : parsed (48 ∷ 48 ∷ 55 ∷ []) ≡ Number (pos 7)
+pub with_noughts : parsed (48 ∷ 48 ∷ 55 ∷ []) ≡ Some (pos 7)
 unfolding parsed number_or is_natural all_of is_digit value_of value_from
 with_noughts = refl
 
 -- "-" and "1a"
-pub sign_alone : parsed (45 ∷ []) ≡ Wrong
+pub sign_alone : parsed (45 ∷ []) ≡ None
 unfolding parsed number_or is_natural all_of is_digit
 sign_alone = refl
 
-pub letter : parsed (49 ∷ 97 ∷ []) ≡ Wrong
+pub letter : parsed (49 ∷ 97 ∷ []) ≡ None
 unfolding parsed number_or is_natural all_of is_digit
 letter = refl
 

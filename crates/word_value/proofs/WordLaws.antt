@@ -1,17 +1,19 @@
 -- Words read digit by digit. Assumes nothing.
 use mathlib.Core.Path.{◌≡◌, refl, sym}
 use mathlib.Core.Bool.{Bool, true, false, ◌&&◌}
-use mathlib.Core.List.{List}
+use mathlib.Core.List.{List, [], ◌∷◌}
 use Prim.Native.Nat.{ℕ, suc, ◌+◌, ◌*◌, ◌-◌, ◌^◌, ◌<◌, ◌≤◌}
 use native.Mathlib.Nat.{pow-le-pow_right, pow-suc}
 use native.Mathlib.Numerals.{add-one}
 use native.Mathlib.Omega.{arith}
-use borrow.Author.Tests.{leb-true, le-leb, lt-leb}
+use borrow.Author.Tests.{leb-true, le-leb}
 use lib.Dec.{leb}
 use lib.ListN.{length, get_or, drop, drop_of_length-le}
 use lib.Seq.{drop-cons}
 use Rattle.arithmetic.specs.Places.{all_of}
-use Rattle.arithmetic.proofs.Test.{and_true, and_false}
+use Rattle.arithmetic.proofs.Test.{and_true}
+use Rattle.std.specs.Char.{is_ascii_digit}
+use Rattle.std.specs.List.{list_all}
 use Rattle.word_value.specs.WordValue.{is_digit, value_from, is_natural}
 
 -- ---- one byte
@@ -20,19 +22,17 @@ pub digit_yes : (b : ℕ) → 48 ≤ b → b ≤ 57 → is_digit b ≡ true
 unfolding is_digit
 digit_yes b h i = rw (le-leb 48 b h, le-leb b 57 i)
 
-pub digit_below : (b : ℕ) → b < 48 → is_digit b ≡ false
-unfolding is_digit
-digit_below b h = rw (lt-leb 48 b h)
-
-pub digit_above : (b : ℕ) → 57 < b → is_digit b ≡ false
-unfolding is_digit
-digit_above b h = rw (lt-leb b 57 h) (and_false (leb 48 b))
-
 pub digit_range : (b : ℕ) → is_digit b ≡ true → (48 ≤ b) × (b ≤ 57)
 unfolding is_digit
 digit_range b e =
     let parts = and_true (leb 48 b) (leb b 57) e in
     (leb-true 48 b parts.0, leb-true b 57 parts.1)
+
+-- the library's test passes at the same bytes
+pub same_digits : (w : List ℕ) → list_all is_ascii_digit w ≡ all_of is_digit w
+unfolding all_of is_digit
+same_digits [] = refl
+same_digits (b ∷ w) = rw (same_digits w)
 
 -- ---- 1 to 18 digits
 
@@ -43,14 +43,6 @@ natural_is w b h i e = rw (le-leb 1 (length w) h, le-leb (length w) 18 i, ← e)
     and_yes : (a : Bool) → (a && true && true) ≡ a
     and_yes true = refl
     and_yes false = refl
-
-pub natural_short : (w : List ℕ) → length w < 1 → false ≡ is_natural w
-unfolding is_natural
-natural_short w h = sym (rw (lt-leb 1 (length w) h, and_false (all_of is_digit w)))
-
-pub natural_long : (w : List ℕ) → 18 < length w → false ≡ is_natural w
-unfolding is_natural
-natural_long w h = sym (rw (lt-leb (length w) 18 h) (and_false (all_of is_digit w && leb 1 (length w))))
 
 pub natural_parts : (w : List ℕ) → is_natural w ≡ true → (all_of is_digit w ≡ true) × (1 ≤ length w) × (length w ≤ 18)
 unfolding is_natural

@@ -1,8 +1,6 @@
 -- A whole number given as a word: '-' or nothing, then 1 to 18 digits. Assumes nothing.
-use Rattle.std.specs.Prelude.{Bool, ◌&&◌, cond, List, [], ◌∷◌, ℕ, ◌+◌, ◌-◌, ◌*◌, leb, eqb, ℤ, pos, neg_ℤ, length}
+use Rattle.std.specs.Prelude.{Bool, ◌&&◌, cond, Option, Some, None, List, [], ◌∷◌, ℕ, ◌+◌, ◌-◌, ◌*◌, leb, eqb, ℤ, pos, neg_ℤ, length}
 use Rattle.arithmetic.specs.Places.{all_of}
-use Rattle.word_value.specs.declared.Parsed.{Parsed}
-use Rattle.word_value.specs.declared.Parsed.TheVariants.{Number, Wrong}
 
 unfoldable pub is_digit : ℕ → Bool
 is_digit b = leb 48 b && leb b 57
@@ -19,11 +17,11 @@ value_of w = value_from 0 w
 unfoldable pub is_natural : List ℕ → Bool
 is_natural w = all_of is_digit w && leb 1 (length w) && leb (length w) 18
 
-unfoldable pub number_or : Bool → ℤ → Parsed
-number_or good z = cond good (Number z) Wrong
+unfoldable pub number_or : Bool → ℤ → Option ℤ
+number_or good z = cond good (Some z) None
 
--- "-0" is 0
-unfoldable pub parsed : List ℕ → Parsed
-parsed [] = Wrong
+-- None where the word is no number; "-0" is 0
+unfoldable pub parsed : List ℕ → Option ℤ
+parsed [] = None
 parsed (b ∷ w) =
     cond (eqb b 45) (number_or (is_natural w) (neg_ℤ (pos (value_of w)))) (number_or (is_natural (b ∷ w)) (pos (value_of (b ∷ w))))

@@ -1,42 +1,23 @@
 // Whole numbers read from words.
 #![tactic(auto)]
 
-ghost use Rattle.std.specs.Prelude.{◌≡◌, true, ◌<◌};
-ghost use Rattle.word_value.specs.WordValue.{is_natural, value_of, parsed};
+ghost use Rattle.std.specs.Prelude.{◌≡◌, true, pos, ◌<◌, ◌≤ℤ◌, IfSome};
+ghost use Rattle.std.specs.Char.{is_ascii_digit};
+ghost use Rattle.std.specs.List.{list_all};
+ghost use Rattle.word_value.specs.WordValue.{is_natural, value_of, number_or, parsed};
 
-#[derive(Clone, Copy)]
-pub enum Parsed {
-    Number(i64),
-    Wrong,
+fn are_digits(word: &[u8]) -> bool
+    ensures { result ≡ list_all is_ascii_digit word.now }
+{
+    word.iter().all(|b| b.is_ascii_digit())
 }
 
 // 1 to 18 digits and nothing else.
+#[tactic(auto, using(crate::proofs::WordLaws::same_digits), unfolding(crate::specs::WordValue::is_natural))]
 fn is_natural(word: &[u8]) -> bool
     ensures { result ≡ is_natural word.now }
 {
-    if word.len() < 1 {
-        return false;
-    }
-    if 18 < word.len() {
-        return false;
-    }
-    let mut k = 0;
-    while k < word.len() {
-        if word[k] < 48 {
-            return false;
-        }
-        if 57 < word[k] {
-            return false;
-        }
-        k += 1;
-    }
-    true
-}
-
-fn wide(b: u8) -> u64
-    ensures { result ≡ b }
-{
-    b as u64
+    are_digits(word) && (1..=18).contains(&word.len())
 }
 
 fn value_of(word: &[u8]) -> u64
@@ -45,30 +26,31 @@ fn value_of(word: &[u8]) -> u64
     ensures upper_bound { result < 1000000000000000000 }
 {
     let mut value = 0;
-    let mut k = 0;
-    while k < word.len() {
-        value = value * 10 + wide(word[k] - 48);
-        k += 1;
+    for b in word {
+        value = value * 10 + u64::from(b - b'0');
     }
     value
 }
 
+// The number that digits alone give.
+#[tactic(auto, unfolding(crate::specs::WordValue::number_or))]
+fn natural(word: &[u8]) -> Option<i64>
+    ensures value { result ≡ number_or (is_natural word.now) (pos (value_of word.now)) }
+    ensures not_negative { IfSome result (λ z. pos 0 ≤ℤ z) }
+{
+    if !is_natural(word) {
+        return None;
+    }
+    Some(value_of(word) as i64)
+}
+
 // Any word.
-pub fn parse(word: &[u8]) -> Parsed
+// Kept: what may not change, the definition `parsed`: 1 to 18 digits and no plus sign, where `str::parse` takes 19 digits and a plus sign.
+pub fn parse(word: &[u8]) -> Option<i64>
     ensures { result ≡ parsed word.now }
 {
-    if word.len() == 0 {
-        return Parsed::Wrong;
+    match word.strip_prefix(b"-") {
+        Some(digits) => natural(digits).map(|z| -z),
+        None => natural(word),
     }
-    if word[0] == 45 {
-        let digits = &word[1..];
-        if !is_natural(digits) {
-            return Parsed::Wrong;
-        }
-        return Parsed::Number(0 - value_of(digits) as i64);
-    }
-    if !is_natural(word) {
-        return Parsed::Wrong;
-    }
-    Parsed::Number(value_of(word) as i64)
 }

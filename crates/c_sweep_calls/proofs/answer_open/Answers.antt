@@ -1,16 +1,17 @@
 -- `c_sweep_calls::answer_open` meets its contract, which is that of `sweep::Sweep::open`. Assumes nothing.
 use mathlib.Core.Path.{ap, ◌∙◌}
-use Rattle.refusal.specs.Answer.{number_in}
-use Rattle.refusal.proofs.AnswerLaws.{number_in_lem}
-use Rattle.c_sweep.specs.SweepStruct.{sweep_left}
-use Rattle.c_sweep.proofs.SweepLeft.{sweep_left_lem, both_left}
+use Rattle.std.proofs.Common.{rules}
+use Rattle.c_answers.proofs.Told.{refused, done, as_it_was, as_due}
+use Rattle.c_sweep.specs.SweepStruct.{sweep_numbers}
 use Rattle.c_sweep_calls.proofs.answer_open.Goals as goal
 
-pub returns : goal.returns
-returns c =
-    let answer-sweep-call = c.answer_sweep in
-    let told = rw c.head_of.ensures at c.«open».ensures in
-    record {
-      the_number = answer-sweep-call.ensures.value ∙ ap number_in told.the_answer ∙ number_in_lem _ _;
-      the_lent = (λ i. record { sweep = (answer-sweep-call.ensures.numbers_after ∙ ap (sweep_left _) told.the_answer ∙ sweep_left_lem _ _ _) i; lists = told.the_sums i }) ∙ both_left _ _ _;
-    }
+pub returns-in_err-open-clause-opens : goal.returns-in_err-open-clause-opens
+returns-in_err-open-clause-opens c =
+    let refusal = c.in_err-open.field-0.0 in
+    let told = rw c.head_of.ensures at c.in_err-open.ensures.opens in
+    refused _ _ refusal told.the_answer (search rules) (λ i. record { sweep = c.args.sweep.now; lists = as_it_was _ _ _ _ _ refusal told.the_answer told.the_sums i })
+
+pub returns-clause-opens : goal.returns-clause-opens
+returns-clause-opens c =
+    let told = rw c.head_of.ensures at c.in_ok-open.ensures.opens in
+    done _ _ _ told.the_answer (λ e i. record { sweep = (c.sweep_numbers.ensures ∙ ap sweep_numbers e) i; lists = as_due _ _ _ _ _ _ told.the_answer told.the_sums i })

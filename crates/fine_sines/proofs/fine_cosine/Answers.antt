@@ -7,13 +7,10 @@ use Rattle.fine_sines.proofs.fine_cosine.Goals as goal
 pub overflow_mul-scaled-2 : goal.overflow_mul-scaled-2
 overflow_mul-scaled-2 c = omega (arith, square_most c.requires)
 
-pub overflow_add-result : goal.overflow_add-result
-overflow_add-result c = omega (arith, square_most c.requires)
-
 pub overflow_sub-result : goal.overflow_sub-result
-overflow_sub-result c = omega (arith, square_most c.requires)
+overflow_sub-result c = rw c.nearest.ensures (omega (arith, square_most c.requires))
 
--- each `_` is a number of the code, and `tt` says that the test with them computes to true
+-- the `_` is a number of the code, beside half its scale and its scale, and `tt` says that the test with them computes to true
 pub returns : goal.returns
 unfolding rounds
-returns c = g_tested _ _ _ tt c.args.b c.requires
+returns c = rw c.nearest.ensures (g_tested _ 16777216 33554432 tt c.args.b c.requires)

@@ -13,7 +13,7 @@ overflow_mul-scaled-4 c = omega (arith, cube_most c.requires)
 pub overflow_sub-scaled : goal.overflow_sub-scaled
 overflow_sub-scaled c = omega (arith, cube_most c.requires)
 
--- each `_` is a number of the code, and `tt` says that the test with them computes to true
+-- each `_` is a number of the code, beside half its scale and its scale, and `tt` says that the test with them computes to true
 pub returns : goal.returns
 unfolding rounds
-returns c = f_tested _ _ _ _ tt c.args.b c.requires
+returns c = rw c.nearest.ensures (f_tested _ _ 17179869184 34359738368 tt c.args.b c.requires)

@@ -21,4 +21,4 @@ returns c =
     let rays = gates in
     let header = rays in
     let args = header.args in
-    gates-stored args.buffer.now args.head header.put_header.ensures rays.put_u16.ensures gates.put_u16-2.ensures first.put_u32.ensures spacing.put_u32-2.ensures
+    gates-stored args.buffer.now args.head header.put_header.ensures rays.put.ensures gates.put-2.ensures first.put-3.ensures spacing.put-4.ensures

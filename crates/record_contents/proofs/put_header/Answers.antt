@@ -7,4 +7,4 @@ returns c =
     let count = c in
     let tag = count in
     let args = tag.args in
-    header_stored args.buffer.now args.at args.tag args.count tag.put_u8.ensures count.put_u16.ensures
+    header_stored args.buffer.now args.at args.tag args.count tag.put.ensures count.put-2.ensures

@@ -17,15 +17,15 @@ hrap-stored : (a : List ℕ) (g : HrapGrid) {b c d e f h : List ℕ} → b ≡ s
 unfolding bytes_of signed_bytes_of grid_bytes header_bytes field_bytes
 hrap-stored a g header kind i j columns rows = rw (rows, columns, j, i, kind, header)
 
-pub put_i16-requires : goal.put_i16-requires
-put_i16-requires c =
+pub put_signed-requires : goal.put_signed-requires
+put_signed-requires c =
     let start = c in
-    (search rules, word_small 65536 (accepted_hrap start.args.g start.requires.0).i_limit tt tt)
+    (search rules, search rules, word_small 65536 (accepted_hrap start.args.g start.requires.0).i_limit tt tt)
 
-pub put_i16-requires-2 : goal.put_i16-requires-2
-put_i16-requires-2 c =
+pub put_signed-requires-2 : goal.put_signed-requires-2
+put_signed-requires-2 c =
     let start = c in
-    (search rules, word_small 65536 (accepted_hrap start.args.g start.requires.0).j_limit tt tt)
+    (search rules, search rules, word_small 65536 (accepted_hrap start.args.g start.requires.0).j_limit tt tt)
 
 pub returns : goal.returns
 returns c =
@@ -38,7 +38,7 @@ returns c =
     let start = header in
     let g = start.args.g in
     let known = accepted_hrap g start.requires.0 in
-    hrap-stored start.args.buffer.now g header.put_header.ensures kind.put_u8.ensures
-    (rw (word_same known.i_limit tt) at i.put_i16.ensures)
-    (rw (word_same known.j_limit tt) at j.put_i16-2.ensures)
-    columns.put_u16.ensures rows.put_u16-2.ensures
+    hrap-stored start.args.buffer.now g header.put_header.ensures kind.put.ensures
+    (rw (word_same known.i_limit tt) at i.put_signed.ensures)
+    (rw (word_same known.j_limit tt) at j.put_signed-2.ensures)
+    columns.put-2.ensures rows.put-3.ensures

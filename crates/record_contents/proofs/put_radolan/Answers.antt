@@ -17,15 +17,15 @@ radolan-stored : (a : List ℕ) (g : RadolanGrid) {b c d e f h i : List ℕ} →
 unfolding bytes_of signed_bytes_of grid_bytes header_bytes field_bytes
 radolan-stored a g header kind x y side columns rows = rw (rows, columns, side, y, x, kind, header)
 
-pub put_i32-requires : goal.put_i32-requires
-put_i32-requires c =
+pub put_signed-requires : goal.put_signed-requires
+put_signed-requires c =
     let start = c in
-    (search rules, word_small 4294967296 (accepted_radolan start.args.g start.requires.0).x_limit tt tt)
+    (search rules, search rules, word_small 4294967296 (accepted_radolan start.args.g start.requires.0).x_limit tt tt)
 
-pub put_i32-requires-2 : goal.put_i32-requires-2
-put_i32-requires-2 c =
+pub put_signed-requires-2 : goal.put_signed-requires-2
+put_signed-requires-2 c =
     let start = c in
-    (search rules, word_small 4294967296 (accepted_radolan start.args.g start.requires.0).y_limit tt tt)
+    (search rules, search rules, word_small 4294967296 (accepted_radolan start.args.g start.requires.0).y_limit tt tt)
 
 pub returns : goal.returns
 returns c =
@@ -39,7 +39,7 @@ returns c =
     let start = header in
     let g = start.args.g in
     let known = accepted_radolan g start.requires.0 in
-    radolan-stored start.args.buffer.now g header.put_header.ensures kind.put_u8.ensures
-    (rw (word_same known.x_limit tt) at x.put_i32.ensures)
-    (rw (word_same known.y_limit tt) at y.put_i32-2.ensures)
-    side.put_u32.ensures columns.put_u16.ensures rows.put_u16-2.ensures
+    radolan-stored start.args.buffer.now g header.put_header.ensures kind.put.ensures
+    (rw (word_same known.x_limit tt) at x.put_signed.ensures)
+    (rw (word_same known.y_limit tt) at y.put_signed-2.ensures)
+    side.put-2.ensures columns.put-3.ensures rows.put-4.ensures

@@ -15,15 +15,15 @@ site-stored : (a : List ℕ) (site : Site) {b c d : List ℕ} → b ≡ sets a 0
 unfolding bytes_of signed_bytes_of site_bytes header_bytes field_bytes
 site-stored a site e f g = rw (g, f, e)
 
-pub put_i32-requires : goal.put_i32-requires
-put_i32-requires c =
+pub put_signed-requires : goal.put_signed-requires
+put_signed-requires c =
     let start = c in
-    (search rules, word_small 4294967296 (latitude_limit start.args.site start.requires.0) tt tt)
+    (search rules, search rules, word_small 4294967296 (latitude_limit start.args.site start.requires.0) tt tt)
 
-pub put_i32-requires-2 : goal.put_i32-requires-2
-put_i32-requires-2 c =
+pub put_signed-requires-2 : goal.put_signed-requires-2
+put_signed-requires-2 c =
     let start = c in
-    (search rules, word_small 4294967296 (longitude_limit start.args.site start.requires.0) tt tt)
+    (search rules, search rules, word_small 4294967296 (longitude_limit start.args.site start.requires.0) tt tt)
 
 pub returns : goal.returns
 returns c =
@@ -33,5 +33,5 @@ returns c =
     let start = header in
     let site = start.args.site in
     site-stored start.args.buffer.now site header.put_header.ensures
-    (rw (word_same (latitude_limit site start.requires.0) tt) at latitude.put_i32.ensures)
-    (rw (word_same (longitude_limit site start.requires.0) tt) at longitude.put_i32-2.ensures)
+    (rw (word_same (latitude_limit site start.requires.0) tt) at latitude.put_signed.ensures)
+    (rw (word_same (longitude_limit site start.requires.0) tt) at longitude.put_signed-2.ensures)

@@ -12,4 +12,4 @@ returns c =
     let header = byte in
     let args = header.args in
     let content = ap (bytes_of 1) byte.weighting_byte.ensures in
-    field_stored args.buffer.now args.at 4 (bytes_of 1 (weighting_byte args.weighting)) (bytes_length 1 _) header.put_header.ensures (rw content at byte.put_u8.ensures)
+    field_stored args.buffer.now args.at 4 (bytes_of 1 (weighting_byte args.weighting)) (bytes_length 1 _) header.put_header.ensures (rw content at byte.put.ensures)

@@ -1,14 +1,11 @@
 -- `sheet_lines::put_sheet` meets its contract. Assumes nothing.
-use mathlib.Core.Path.{ap}
+use Rattle.std.proofs.Common.{ap, sym, ◌∙◌}
 use Rattle.sheet_lines.specs.SheetLines.{top_lines, sheet_lines}
-use Rattle.text.proofs.StoredLaws.{stored_same, stored_next}
+use Rattle.text.proofs.StoredLaws.{appends_same, appends_next}
+use Rattle.sheet_lines.proofs.CellLines.{sum_places}
 use Rattle.sheet_lines.proofs.put_sheet.Goals as goal
 
-pub returns : goal.returns
+pub returns-clause-appended : goal.returns-clause-appended
 unfolding sheet_lines
-returns c =
-    let cells = c.put_cells.ensures in
-    record {
-      upper_bound = cells.upper_bound;
-      stored = stored_next (stored_same (ap (top_lines _ _ _) c.total-placed.ensures) c.put_top-at.ensures.stored) cells.stored;
-    }
+returns-clause-appended c =
+    appends_next (appends_same (ap (top_lines _ _ _) (c.total.ensures ∙ sym (sum_places c.args.cells.counts.now))) c.put_top.ensures.appended) c.put_cells.ensures.appended

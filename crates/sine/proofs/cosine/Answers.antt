@@ -13,9 +13,8 @@ use Rattle.sine.proofs.cosine.Goals as goal
 pub returns : goal.returns
 unfolding cosine_of sine_of
 returns c =
-    let s = c in
     read_back
     (c.sine_in_turn.ensures
-    ∙ ap (λ (m : ℕ). in_turn neg_ℤ quarter_sine ((m + 900000) % 3600000)) (simp (to_z-of_z, s.ranges.angle) at c.turn.ensures.0)
-    ∙ sym (later_in_turn neg_ℤ quarter_sine s.args.angle 900000))
-    (fits64 (cosine_magnitude s.args.angle) tt)
+    ∙ ap (λ (m : ℕ). in_turn neg_ℤ quarter_sine ((m + 900000) % 3600000)) (simp (to_z-of_z, c.ranges.angle) at c.turn.ensures.0)
+    ∙ sym (later_in_turn neg_ℤ quarter_sine c.args.angle 900000))
+    (fits64 (cosine_magnitude c.args.angle) tt)

@@ -11,7 +11,6 @@ use Rattle.sine.proofs.sine.Goals as goal
 pub returns : goal.returns
 unfolding sine_of by_quarters
 returns c =
-    let s = c in
     read_back
-    (c.sine_in_turn.ensures ∙ ap (in_turn neg_ℤ quarter_sine) (simp (to_z-of_z, s.ranges.angle) at c.turn.ensures.0))
-    (fits64 (sine_magnitude s.args.angle) tt)
+    (c.sine_in_turn.ensures ∙ ap (in_turn neg_ℤ quarter_sine) (simp (to_z-of_z, c.ranges.angle) at c.turn.ensures.0))
+    (fits64 (sine_magnitude c.args.angle) tt)

@@ -48,4 +48,4 @@ pub returns-in_default : goal.returns-in_default
 unfolding in_quarter
 returns-in_default c =
     rw (read_back c.quarter_sine-in_default.ensures (plus-fits _ (omega arith)), +ℤ_idl)
-    (to_z-of_z (minus-fits _ (omega arith)) ∙ quarter-of _ 3 (omega (arith, c.in_default.in_default-own.rest.1, c.in_default.in_default-own.rest.0.1, c.in_default.in_default-own.rest.0.0.1)))
+    (to_z-of_z (minus-fits _ (omega arith)) ∙ quarter-of _ 3 (omega arith))

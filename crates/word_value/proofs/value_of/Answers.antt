@@ -4,7 +4,6 @@ use mathlib.Core.Bool.{true}
 use mathlib.Core.List.{List}
 use Prim.Native.Nat.{ℕ, ◌≤◌, ◌<◌, ◌^◌}
 use native.Mathlib.Omega.{arith}
-use borrow.Author.Rules.{rules}
 use lib.ListN.{length, get_or, drop}
 use Rattle.arithmetic.specs.Places.{all_of}
 use Rattle.word_value.specs.WordValue.{is_digit, value_of, is_natural}
@@ -20,40 +19,39 @@ module _ (w : List ℕ) (k : ℕ) where
   digit : k < length w → all_of is_digit (drop k w) ≡ true → (48 ≤ get_or w k 0) × (get_or w k 0 ≤ 57)
   digit h e = digit_range _ (digit_next w k h e).0
 
-pub loop-k-init : goal.loop-k-init
+pub loop-b-init : goal.loop-b-init
 unfolding value_of
-loop-k-init c = (search rules, (natural_parts c.args.word.now c.requires).0, refl, omega arith)
+loop-b-init c = ((natural_parts c.args.word.now c.requires).0, refl, omega arith)
 
 pub overflow_mul-value : goal.overflow_mul-value
 overflow_mul-value c =
-    record { fits = omega (arith, small c.args.word.now c.loop-k.k c.requires c.loop-k-test.true c.loop-k.invariant.3) }
+    record { fits = omega (arith, small c.args.word.now c.loop-b.b-index c.requires c.loop-b-test.true c.loop-b.invariant.2) }
 
-pub overflow_sub-word : goal.overflow_sub-word
-overflow_sub-word c = (digit c.args.word.now c.loop-k.k c.loop-k-test.true c.loop-k.invariant.1).0
+pub overflow_sub-b : goal.overflow_sub-b
+overflow_sub-b c = (digit c.args.word.now c.loop-b.b-index c.loop-b-test.true c.loop-b.invariant.0).0
 
 pub overflow_add-value : goal.overflow_add-value
 overflow_add-value c =
     let word = c.args.word.now in
-    let loop = c.loop-k in
-    let h = c.loop-k-test.true in
-    record { fits = omega (arith, small word loop.k c.requires h loop.invariant.3, digit word loop.k h loop.invariant.1, c.wide.ensures) }
+    let loop = c.loop-b in
+    let h = c.loop-b-test.true in
+    record { fits = omega (arith, small word loop.b-index c.requires h loop.invariant.2, digit word loop.b-index h loop.invariant.0, c.from.ensures) }
 
-pub loop-k-preserved : goal.loop-k-preserved
-loop-k-preserved c =
+pub loop-b-preserved : goal.loop-b-preserved
+loop-b-preserved c =
     let word = c.args.word.now in
-    let loop = c.loop-k in
-    let h = c.loop-k-test.true in (
-      search rules,
-      (digit_next word loop.k h loop.invariant.1).1,
-      rw c.wide.ensures (sym (value_next word loop.k loop.value h) ∙ loop.invariant.2),
-      value_below loop.value loop.k c.wide.result loop.invariant.3 (omega (arith, digit word loop.k h loop.invariant.1, c.wide.ensures)),
+    let loop = c.loop-b in
+    let h = c.loop-b-test.true in (
+      (digit_next word loop.b-index h loop.invariant.0).1,
+      rw c.from.ensures (sym (value_next word loop.b-index loop.value h) ∙ loop.invariant.1),
+      value_below loop.value loop.b-index c.from.result loop.invariant.2 (omega (arith, digit word loop.b-index h loop.invariant.0, c.from.ensures)),
     )
 
 pub returns : goal.returns
 returns c =
     let word = c.args.word.now in
-    let loop = c.loop-k in
+    let loop = c.loop-b in
     record {
-      value = sym (value_end word loop.k loop.value c.loop-k-test.false) ∙ loop.invariant.2;
-      upper_bound = omega (arith, loop.invariant.3, power_below loop.k 18 (omega (arith, (natural_parts word c.requires).2)));
+      value = sym (value_end word loop.b-index loop.value c.loop-b-test.false) ∙ loop.invariant.1;
+      upper_bound = omega (arith, loop.invariant.2, power_below loop.b-index 18 (omega (arith, (natural_parts word c.requires).2)));
     }

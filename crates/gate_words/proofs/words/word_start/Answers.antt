@@ -1,21 +1,16 @@
 -- `gate_words::words::word_start` meets its contract. Assumes nothing.
-use mathlib.Core.Path.{ap, ◌∙◌, refl}
-use native.Mathlib.Omega.{arith}
-use Rattle.gate_words.specs.GivenWords.{word_start}
+use Rattle.std.proofs.Common.{refl, ap, ◌∙◌, arith, length, length-drop}
+use Rattle.gate_words.specs.GivenWords.{word_length, word_start}
 use Rattle.gate_words.proofs.GivenLaws.{start_next}
-use borrow.Author.Rules.{rules}
 use Rattle.gate_words.proofs.words.word_start.Goals as goal
 
-pub loop-k-init : goal.loop-k-init
+pub loop-init : goal.loop-init
 unfolding word_start
-loop-k-init c = (search rules, refl, search rules)
+loop-init c = (refl, omega arith)
 
-pub loop-k-preserved : goal.loop-k-preserved
-loop-k-preserved c = (
-  omega arith,
-  start_next c.args.words.now c.loop-k.k c.loop-k.invariant.1 c.word_end-start.ensures.value,
-  omega (arith, c.word_end-start.ensures.bounded),
-)
-
-pub returns : goal.returns
-returns c = c.loop-k.invariant.1 ∙ ap (word_start c.args.words.now) (omega arith)
+pub loop-preserved : goal.loop-preserved
+loop-preserved c =
+    let next = c.word_length.ensures in (
+      start_next c.args.words.now c.loop.counter c.loop.invariant.0 (next.value ∙ ap word_length c.rest.ensures),
+      omega (arith, next.bounded, ap length c.rest.ensures ∙ length-drop c.loop.start c.args.words.now, c.loop.invariant.1),
+    )

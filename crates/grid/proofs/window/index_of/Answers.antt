@@ -11,6 +11,5 @@ overflow_sub-x c = simp (to_z-of_z, c.ranges.x, c.ranges.corner) (fits64 (magnit
 pub returns : goal.returns
 unfolding index_of
 returns c =
-    let s = c in
-    let apart = fits64 (magnitude_difference s.requires.2 s.requires.1) tt in
-    read_back (simp (to_z-of_z, s.ranges.x, s.ranges.corner, apart) at c.floor_div.ensures) (fits64_floor s.args.side apart)
+    let apart = fits64 (magnitude_difference c.requires.2 c.requires.1) tt in
+    read_back (simp (to_z-of_z, c.ranges.x, c.ranges.corner, apart) at c.floor_div.ensures) (fits64_floor c.args.side apart)

@@ -39,16 +39,14 @@ overflow_mul-result-in-Hrap c =
 pub returns-in-Radolan : goal.returns-in-Radolan
 unfolding window_of
 returns-in-Radolan c =
-    let g = c in
-    let h = radolan g in
-    simp (to_z-of_z, fits64 h.x_limit tt, fits64 h.y_limit tt) (sym (ap window_of g.in-Radolan.is))
+    let h = radolan c in
+    simp (to_z-of_z, fits64 h.x_limit tt, fits64 h.y_limit tt, c.from.ensures) (sym (ap window_of c.in-Radolan.is))
 
 pub returns-in-Hrap : goal.returns-in-Hrap
 unfolding window_of
 returns-in-Hrap c =
-    let g = c in
-    let i = (hrap-2 g).i_limit in
-    let j = (hrap-2 g).j_limit in
+    let i = (hrap-2 c).i_limit in
+    let j = (hrap-2 c).j_limit in
     simp
     (to_z-of_z, fits64 i tt, fits64 (hrap_distance 401 i) tt, fits64 (hrap_corner 401 i) tt, fits64 j tt, fits64 (hrap_distance 1601 j) tt, fits64 (hrap_corner 1601 j) tt)
-    (sym (ap window_of g.in-Hrap.is))
+    (sym (ap window_of c.in-Hrap.is))

@@ -4,28 +4,10 @@ use mathlib.Core.Path.{refl, ◌∙◌}
 use Prim.Native.Nat.{◌-◌}
 use native.Mathlib.Omega.{arith}
 use lib.ListN.{length}
-use Rattle.group_sums.proofs.RayOfGroup.{ray_end, next_start, no_rays_lem}
-use Rattle.group_sums.proofs.RaysUndone.{none_undone, all_undone, undone_room, last_added, last_undone}
+use Rattle.group_sums.proofs.RayOfGroup.{next_start, no_rays_lem}
+use Rattle.group_sums.proofs.RaysUndone.{all_undone, undone_room, last_added, last_undone}
 use borrow.Author.Rules.{rules}
 use Rattle.group_sums.proofs.undo.take_out_rays.Goals as goal
-
-pub loop-ray-init : goal.loop-ray-init
-loop-ray-init c = (search rules, refl, none_undone c.requires.3)
-
-pub overflow_mul-start : goal.overflow_mul-start
-overflow_mul-start c =
-    let a = c.args in
-    omega (arith, ray_end (c.loop-ray.ray - 1) (length a.azimuths.now) (length a.entries.now) (omega arith), c.requires.1.values_length, c.well_formed.1.1.1.1.1.0.0)
-
-pub overflow_add-end : goal.overflow_add-end
-overflow_add-end c =
-    let a = c.args in
-    omega (arith, ray_end (c.loop-ray.ray - 1) (length a.azimuths.now) (length a.entries.now) (omega arith), c.requires.1.values_length, c.well_formed.1.1.1.1.1.0.0)
-
-pub offset_bounds-values-start : goal.offset_bounds-values-start
-offset_bounds-values-start c =
-    let a = c.args in
-    omega (arith, ray_end (c.loop-ray.ray - 1) (length a.azimuths.now) (length a.entries.now) (omega arith), c.requires.1.values_length, c.well_formed.1.1.1.1.1.0.0, c.well_formed.1.1.1.1.1.0.1)
 
 pub take_out_ray-requires : goal.take_out_ray-requires
 take_out_ray-requires c =
@@ -33,8 +15,8 @@ take_out_ray-requires c =
     let l = c.loop-ray.invariant in
     let gates = length a.entries.now in
     let ray = c.loop-ray.ray - 1 in
-    let room = undone_room a.survey a.first a.spacing gates a.azimuths.now a.values.now a.qualities.now ray _ _ (omega arith) refl refl l.2 (next_start _ ray gates (omega arith)) c.requires.1 refl l.1 in
-    (c.requires.0, room, rw l.1 (last_added a.survey a.first a.spacing gates a.azimuths.now a.values.now a.qualities.now ray _ _ (omega arith) refl refl l.2 (next_start _ ray gates (omega arith)) room l.1))
+    let room = undone_room a.survey a.centres gates a.rays.azimuths.now a.rays.values.now a.rays.qualities.now ray _ _ (omega arith) refl refl l.undone (next_start _ ray gates (omega arith)) c.requires.0 l.room in
+    (room, rw l.room (last_added a.survey a.centres gates a.rays.azimuths.now a.rays.values.now a.rays.qualities.now ray _ _ (omega arith) refl refl l.undone (next_start _ ray gates (omega arith)) room l.room))
 
 pub loop-ray-preserved : goal.loop-ray-preserved
 loop-ray-preserved c =
@@ -42,7 +24,11 @@ loop-ray-preserved c =
     let l = c.loop-ray.invariant in
     let gates = length a.entries.now in
     let ray = c.loop-ray.ray - 1 in
-    (omega arith, c.take_out_ray.auto.entries ∙ l.1, last_undone a.survey a.first a.spacing gates a.azimuths.now a.values.now a.qualities.now ray _ _ (omega arith) refl refl l.2 (next_start _ ray gates (omega arith)) (rw l.1 at c.take_out_ray.ensures))
+    record {
+      kept = search rules;
+      room = c.take_out_ray.auto.entries ∙ l.room;
+      undone = last_undone a.survey a.centres gates a.rays.azimuths.now a.rays.values.now a.rays.qualities.now ray _ _ (omega arith) refl refl l.undone (next_start _ ray gates (omega arith)) (rw l.room at c.take_out_ray.ensures.taken_out);
+    }
 
-pub returns : goal.returns
-returns c = all_undone c.loop-ray.invariant.2 (no_rays_lem _ _ (omega arith))
+pub returns-clause-taken_out : goal.returns-clause-taken_out
+returns-clause-taken_out c = all_undone c.loop-ray.invariant.undone (no_rays_lem _ _ (omega arith))

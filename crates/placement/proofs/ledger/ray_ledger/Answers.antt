@@ -1,100 +1,48 @@
--- `placement::ledger::ray_ledger` meets its contract. The loop's invariant: in ledger and marks the places from start up to k hold what their gates
+-- `placement::ledger::ray_ledger` meets its contract. The loop's invariant: in ledger and marks the places up to the gate hold what their gates
 -- tell, and the others what they held. Assumes nothing.
-use mathlib.Core.Path.{◌≡◌, sym, ap, ◌∙◌}
-use Prim.Native.Nat.{ℕ, ◌+◌, ◌*◌, ◌-◌, ◌≤◌}
-use native.Mathlib.Nat.{le_antisymm}
+use mathlib.Core.Path.{◌≡◌, refl, sym, ap, ◌∙◌}
 use native.Mathlib.Omega.{arith}
-use borrow.Author.Rules.{scaled_Fits}
-use borrow.Enum.Refused.{opened}
 use lib.ListN.{length}
+use Rattle.std.specs.Prelude.{Option, Some, None, ℕ, unwrap_or}
+use Rattle.arithmetic.proofs.Places.{written_more, written_all}
+use Rattle.projection.specs.Position.{ray_terms}
 use Rattle.placement.specs.declared.gate.Placement.{Placement}
-use Rattle.placement.specs.Gate.{entry_of, mark_of}
-use Rattle.placement.specs.Survey.{surveyed_gate, surveyed_ray}
-use Rattle.projection.proofs.GateTerms.{ray_limits}
-use Rattle.arithmetic.proofs.StoredTable.{storing_none, storing_next}
-use Rattle.placement.proofs.OtherAnswers.{not_inside}
+use Rattle.placement.specs.Centres.{centre_of}
+use Rattle.placement.specs.Gate.{entry_of, mark_of, outside_entry, mark_number}
+use Rattle.placement.specs.Survey.{surveyed, surveyed_gate, surveyed_ray}
+use Rattle.placement.proofs.MarkByte.{mark_byte}
 use Rattle.placement.proofs.ledger.ray_ledger.Goals as goal
 
--- the gate's range, and what is told of the gate
-gate_range : (c : goal.In-loop-k) → c.args.first + (c.loop-k.k - c.args.start) * c.args.spacing ≤ 46000000
-gate_range c = c.requires.1.ranges c.loop-k.k c.loop-k-test.true
+-- what the entry of a gate is by its cell
+some_entry : {cell : Option ℕ} {n : ℕ} → cell ≡ Some n → n ≡ unwrap_or cell outside_entry
+some_entry e = rw e
 
-told_is : (told : Placement → ℕ) (c : goal.After-mark_of) → told c.gate_at-placement.result ≡ surveyed_gate told c.args.survey c.args.azimuth (c.args.first + (c.loop-k.k - c.args.start) * c.args.spacing)
-unfolding surveyed_gate
-told_is told c = ap told (rw c.ray_terms-ray.ensures at c.gate_at-placement.ensures)
+none_entry : (cell : Option ℕ) → ((n : ℕ) → cell ≡ Some n → ⊥) → outside_entry ≡ unwrap_or cell outside_entry
+none_entry None e = refl
+none_entry (Some n) e = absurd (e n refl)
 
-pub loop-k-init : goal.loop-k-init
-loop-k-init c = (omega arith, omega arith, storing_none _ _ _, storing_none _ _ _)
+pub loop-gate-preserved : goal.loop-gate-preserved
+unfolding entry_of mark_of surveyed_gate
+loop-gate-preserved c =
+    let placed : c.gate_at-placement.result ≡ surveyed c.args.survey (ray_terms c.args.azimuth) (centre_of c.args.centres c.loop-gate.gate) = rw (c.ray_terms-ray.ensures, c.centre.ensures) at c.gate_at-placement.ensures in
+    record {
+      entries = written_more _ _ _ _ _ _ c.loop-gate.invariant.entries (omega arith) (omega arith) (some_entry c.in-Some.is ∙ ap (λ (p : Placement). unwrap_or p.cell outside_entry) placed);
+      marks = written_more _ _ _ _ _ _ c.loop-gate.invariant.marks (omega arith) (omega arith) (c.from.ensures ∙ mark_byte _ ∙ ap (λ (p : Placement). mark_number p.mark) placed);
+    }
 
-pub overflow_sub-range : goal.overflow_sub-range
-overflow_sub-range c = omega arith
-
-pub overflow_cast-range : goal.overflow_cast-range
-overflow_cast-range c = omega arith
-
-pub overflow_mul-range : goal.overflow_mul-range
-overflow_mul-range c = omega (arith, gate_range c)
-
-pub overflow_add-range : goal.overflow_add-range
-overflow_add-range c = omega (arith, gate_range c)
-
-pub gate_at-placement-requires : goal.gate_at-placement-requires
-gate_at-placement-requires c =
-    let s = c in
-    rw c.ray_terms-ray.ensures (s.requires.0, ray_limits s.args.azimuth, gate_range c)
-
-pub bounds-marks-k : goal.bounds-marks-k
-bounds-marks-k c = omega (arith, c.loop-k.invariant.3.same_length, c.requires.1.marks_most)
-
-pub offset_bounds-ledger-k : goal.offset_bounds-ledger-k
-offset_bounds-ledger-k c =
-    let s = c in
-    scaled_Fits c.loop-k.k (length s.args.ledger.now) 4 (omega arith) s.well_formed.1.1.1.1.0.1
-
-pub bounds-ledger-k : goal.bounds-ledger-k
-bounds-ledger-k c = omega (arith, c.loop-k.invariant.2.same_length)
-
-pub overflow_add-k : goal.overflow_add-k
-overflow_add-k c = omega (arith, c.well_formed.1.1.1.1.0.0)
-
-pub loop-k-smaller-in_default : goal.loop-k-smaller-in_default
-loop-k-smaller-in_default c = omega arith
-
-pub loop-k-preserved-in_default : goal.loop-k-preserved-in_default
-loop-k-preserved-in_default c =
-    let l = c.loop-k in (
-      omega arith,
-      omega arith,
-      storing_next _ _ _ _ _ _ l.invariant.0 l.invariant.2 (not_inside c.gate_at-placement.result (opened c.in_default.in_default-own.keys2) ∙ told_is entry_of c.before),
-      storing_next _ _ _ _ _ _ l.invariant.0 l.invariant.3 (c.mark_of.ensures ∙ told_is mark_of c.before),
-    )
-
-pub offset_bounds-ledger-k-in-loop-k : goal.offset_bounds-ledger-k-in-loop-k
-offset_bounds-ledger-k-in-loop-k c =
-    let s = c in
-    scaled_Fits c.loop-k.k (length s.args.ledger.now) 4 (omega arith) s.well_formed.1.1.1.1.0.1
-
-pub bounds-ledger-k-in-loop-k : goal.bounds-ledger-k-in-loop-k
-bounds-ledger-k-in-loop-k c = omega (arith, c.loop-k.invariant.2.same_length)
-
-pub overflow_add-k-in-loop-k : goal.overflow_add-k-in-loop-k
-overflow_add-k-in-loop-k c = omega (arith, c.well_formed.1.1.1.1.0.0)
-
-pub loop-k-smaller : goal.loop-k-smaller
-loop-k-smaller c = omega arith
-
-pub loop-k-preserved : goal.loop-k-preserved
-unfolding entry_of
-loop-k-preserved c =
-    let l = c.loop-k in (
-      omega arith,
-      omega arith,
-      storing_next _ _ _ _ _ _ l.invariant.0 l.invariant.2 (sym (ap entry_of c.in-Inside.is) ∙ told_is entry_of c.before),
-      storing_next _ _ _ _ _ _ l.invariant.0 l.invariant.3 (c.mark_of.ensures ∙ told_is mark_of c.before),
-    )
+pub loop-gate-preserved-in_default : goal.loop-gate-preserved-in_default
+unfolding entry_of mark_of surveyed_gate
+loop-gate-preserved-in_default c =
+    let placed : c.gate_at-placement.result ≡ surveyed c.args.survey (ray_terms c.args.azimuth) (centre_of c.args.centres c.loop-gate.gate) = rw (c.ray_terms-ray.ensures, c.centre.ensures) at c.gate_at-placement.ensures in
+    record {
+      entries = written_more _ _ _ _ _ _ c.loop-gate.invariant.entries (omega arith) (omega arith) (none_entry _ c.in_default.not-Some ∙ ap (λ (p : Placement). unwrap_or p.cell outside_entry) placed);
+      marks = written_more _ _ _ _ _ _ c.loop-gate.invariant.marks (omega arith) (omega arith) (c.from.ensures ∙ mark_byte _ ∙ ap (λ (p : Placement). mark_number p.mark) placed);
+    }
 
 pub returns : goal.returns
 unfolding surveyed_ray
 returns c =
-    let l = c.loop-k in
-    rw (sym (le_antisymm l.invariant.1 c.loop-k-test.false)) (record { entries = l.invariant.2.stored; marks = l.invariant.3.stored })
+    let all : c.loop-gate.gate ≡ length c.args.ledger.now = omega arith in
+    let l = rw all at c.loop-gate.invariant in
+    let same = c.requires.same_length in
+    record { entries = written_all _ _ _ _ l.entries refl; marks = rw same (written_all _ _ _ _ l.marks (sym same)) }

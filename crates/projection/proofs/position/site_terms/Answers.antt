@@ -11,20 +11,18 @@ use Rattle.projection.proofs.position.site_terms.Goals as goal
 
 pub overflow_sub-longitude : goal.overflow_sub-longitude
 overflow_sub-longitude c =
-    let s = c in
-    simp (to_z-of_z, fits64 s.requires.0 tt, fits64 s.requires.1 tt) (fits64 (magnitude_difference s.requires.1 s.requires.0) tt)
+    simp (to_z-of_z, fits64 c.requires.0 tt, fits64 c.requires.1 tt) (fits64 (magnitude_difference c.requires.1 c.requires.0) tt)
 
 pub returns : goal.returns
 unfolding site_terms
 returns c =
     let told = c.struct_told-1 in
-    let s = c in
-    let latitude : SFits w64 s.args.site.latitude = record { sfits = told.given.0.1 } in
-    let longitude : SFits w64 (s.args.site.longitude -ℤ s.args.meridian) = fits64 (magnitude_difference s.requires.1 s.requires.0) tt in
+    let latitude : SFits w64 c.args.site.latitude = record { sfits = told.given.0.1 } in
+    let longitude : SFits w64 (c.args.site.longitude -ℤ c.args.meridian) = fits64 (magnitude_difference c.requires.1 c.requires.0) tt in
     let sp = simp (to_z-of_z, latitude) at c.sine.ensures in
     let cp = simp (to_z-of_z, latitude) at c.cosine.ensures in
-    let sl = simp (to_z-of_z, fits64 s.requires.0 tt, fits64 s.requires.1 tt, longitude) at c.sine-2.ensures in
-    let cl = simp (to_z-of_z, fits64 s.requires.0 tt, fits64 s.requires.1 tt, longitude) at c.cosine-2.ensures in
+    let sl = simp (to_z-of_z, fits64 c.requires.0 tt, fits64 c.requires.1 tt, longitude) at c.sine-2.ensures in
+    let cl = simp (to_z-of_z, fits64 c.requires.0 tt, fits64 c.requires.1 tt, longitude) at c.cosine-2.ensures in
     λ i. record {
       sp = read_back sp (fits64 (sine_magnitude _) tt) i;
       cp = read_back cp (fits64 (cosine_magnitude _) tt) i;

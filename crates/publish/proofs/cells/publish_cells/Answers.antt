@@ -1,19 +1,20 @@
--- `publish::cells::publish_cells` meets its contract: means, then qualities. Assumes nothing.
-use mathlib.Core.Path.{ap, ◌∙◌}
-use native.Mathlib.Omega.{arith}
-use Rattle.arithmetic.specs.Places.{table}
-use Rattle.publish.specs.Publish.{published_cells}
+-- `publish::cells::publish_cells` meets its contract, for either weighting. Assumes nothing.
+use Rattle.std.proofs.Common.{rules}
+use Rattle.limits.specs.declared.weighting.Weighting.TheVariants.{Plain, ByQuality}
+use Rattle.publish.specs.Publish.{dividends, divisors}
+use Rattle.publish.proofs.FilledCells.{cells_filled}
 use Rattle.publish.proofs.cells.publish_cells.Goals as goal
 
-pub publish_means-requires : goal.publish_means-requires
-publish_means-requires c = let p = c.requires in (omega (arith, p.means_length), omega (arith, p.means_length, p.quality_sums_length), omega (arith, p.means_length, p.value_sums_length), omega (arith, p.means_length, p.weighted_sums_length))
+pub returns-in-Plain-clause-the_cells : goal.returns-in-Plain-clause-the_cells
+unfolding dividends divisors
+returns-in-Plain-clause-the_cells c =
+    let m = c.fill_cells-in-Plain.ensures in
+    let q = c.fill_cells.ensures in
+    cells_filled c.requires Plain c.in-Plain.is m.same_length q.same_length (λ k s d r a b e. search (rules, m.given k s d r a b e)) (λ k s d r a b e. search (rules, q.given k s d r a b e))
 
-pub publish_qualities-requires : goal.publish_qualities-requires
-publish_qualities-requires c = let p = c.requires in (omega (arith, p.cell_qualities_length), omega (arith, p.cell_qualities_length, p.quality_sums_length))
-
-pub returns : goal.returns
-unfolding published_cells
-returns c = λ i. record {
-  means = c.publish_means.ensures i;
-  qualities = (c.publish_qualities.ensures ∙ ap (table _) c.requires.cell_qualities_length) i;
-}
+pub returns-in-ByQuality-clause-the_cells : goal.returns-in-ByQuality-clause-the_cells
+unfolding dividends divisors
+returns-in-ByQuality-clause-the_cells c =
+    let m = c.fill_cells-in-ByQuality.ensures in
+    let q = c.fill_cells.ensures in
+    cells_filled c.requires ByQuality c.in-ByQuality.is m.same_length q.same_length (λ k s d r a b e. search (rules, m.given k s d r a b e)) (λ k s d r a b e. search (rules, q.given k s d r a b e))

@@ -1,32 +1,20 @@
 -- `record_layout::layout::field_start` meets its contract. Assumes nothing.
-use mathlib.Core.Path.{refl, sym, ap, ◌∙◌}
-use native.Mathlib.Nat.{le_antisymm}
+use mathlib.Core.Path.{◌≡◌, refl, sym, ap, ◌∙◌}
 use native.Mathlib.Omega.{arith}
-use borrow.Author.Rules.{rules}
 use Rattle.arithmetic.specs.Places.{sum_to}
-use Rattle.record_layout.specs.RecordPlaces.{field_start}
+use Rattle.record_layout.specs.RecordPlaces.{content_length, field_start}
+use Rattle.record_layout.proofs.FieldOrder.{first_in_order, index_most}
 use Rattle.record_layout.proofs.LayoutSteps.{next_start}
 use Rattle.record_layout.proofs.layout.field_start.Goals as goal
 
-pub loop-j-init : goal.loop-j-init
+pub loop-before-init : goal.loop-before-init
 unfolding field_start sum_to
-loop-j-init c = (search rules, refl, search rules)
+loop-before-init c = (refl, omega arith)
 
-pub overflow_add-start : goal.overflow_add-start
-overflow_add-start c = record { fits = omega (arith, c.content_length.ensures.bounded) }
-
-pub overflow_add-start-in-loop-j : goal.overflow_add-start-in-loop-j
-overflow_add-start-in-loop-j c = record { fits = omega (arith, c.content_length.ensures.bounded, c.loop-j.invariant.2, c.loop-j-test.true, c.requires) }
-
-pub loop-j-preserved : goal.loop-j-preserved
-loop-j-preserved c =
-    let known = c.loop-j.invariant in
-    let length = c.content_length.ensures in (
-      search rules,
-      sym (next_start _ _ ∙ sym (omega (arith, known.1, length.value))),
-      omega (arith, known.2, length.bounded),
-    )
-
-pub returns : goal.returns
-returns c =
-    let known = c.loop-j.invariant in record { value = known.1 ∙ ap (field_start _) (le_antisymm known.0 c.loop-j-test.false); bounded = omega (arith, known.2, known.0, c.requires) }
+pub loop-before-preserved : goal.loop-before-preserved
+loop-before-preserved c =
+    let known = c.loop-before.invariant in
+    let length = c.content_length.ensures in
+    let k = c.loop-before.before-index in
+    let here : c.content_length.result ≡ content_length c.args.bytes.now k = length.value ∙ ap (content_length c.args.bytes.now) (first_in_order c.index.result k _ (omega arith) (omega (arith, c.index.ensures, index_most c.args.field))) in
+    (sym (next_start _ _ ∙ sym (omega (arith, known.0, here))), omega (arith, known.1, length.bounded))

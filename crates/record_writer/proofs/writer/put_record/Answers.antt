@@ -2,7 +2,8 @@
 use mathlib.Core.Path.{refl, ap}
 use Prim.Native.Nat.{ℕ, ◌+◌}
 use native.Mathlib.Omega.{arith}
-use Rattle.scan.specs.Scan.{scan_held}
+use Rattle.std.proofs.lemmas.List.{map-id}
+use Rattle.scan.specs.Scan.{scan_of}
 use Rattle.record_writer.specs.RecordRoom.{record_length}
 use Rattle.record_contents.proofs.ContentLengths.{grid_length_most}
 use Rattle.record_contents.proofs.WrittenBytes.{record_stored}
@@ -32,9 +33,9 @@ pub overflow_add-azimuths_start : goal.overflow_add-azimuths_start
 unfolding record_length
 overflow_add-azimuths_start c = omega arith
 
-pub put_azimuths-requires : goal.put_azimuths-requires
+pub put_numbers-requires : goal.put_numbers-requires
 unfolding record_length
-put_azimuths-requires c = omega arith
+put_numbers-requires c = omega arith
 
 pub overflow_add-values_start : goal.overflow_add-values_start
 unfolding record_length
@@ -44,9 +45,9 @@ pub overflow_add-values_start-2 : goal.overflow_add-values_start-2
 unfolding record_length
 overflow_add-values_start-2 c = omega arith
 
-pub put_values-requires : goal.put_values-requires
+pub put_numbers-requires-2 : goal.put_numbers-requires-2
 unfolding record_length
-put_values-requires c = omega arith
+put_numbers-requires-2 c = omega arith
 
 pub overflow_add-qualities_start : goal.overflow_add-qualities_start
 overflow_add-qualities_start c =
@@ -60,9 +61,9 @@ overflow_add-qualities_start-2 c =
     let start = counted in
     omega (arith, start.requires, counted.grid_bytes-after_grid.ensures, grid_length_most start.args.head.grid)
 
-pub put_qualities-requires : goal.put_qualities-requires
+pub put_numbers-requires-3 : goal.put_numbers-requires-3
 unfolding record_length
-put_qualities-requires c = omega arith
+put_numbers-requires-3 c = omega arith
 
 pub returns : goal.returns
 returns c =
@@ -75,7 +76,7 @@ returns c =
     let gates = grid in
     let site = gates in
     let args = site.args in
-    record_stored (scan_held args.head args.azimuths.now args.values.now args.qualities.now) args.buffer.now
+    record_stored (scan_of args.head args.rays) args.buffer.now
     (ap (λ (n : ℕ). 29 + n) counted.grid_bytes-after_grid.ensures) refl refl refl
     site.put_site.ensures gates.put_gates.ensures grid.put_grid.ensures weighting.put_weighting.ensures
-    azimuths.put_azimuths.ensures values.put_values.ensures qualities.put_qualities.ensures
+    (simp map-id at azimuths.put_numbers.ensures) (simp map-id at values.put_numbers-2.ensures) (simp map-id at qualities.put_numbers-3.ensures)

@@ -1,6 +1,0 @@
--- `uldrevin::gate::uldrevin_place` meets its contract, which is that of `c_scan_calls::answer_place`. Assumes nothing.
-use mir.Facts.{to_z-of_z}
-use Rattle.uldrevin.proofs.gate.uldrevin_place.Goals as goal
-
-pub returns : goal.returns
-returns c = simp (to_z-of_z, c.ranges.azimuth, c.ranges.range) at c.answer_place.ensures
