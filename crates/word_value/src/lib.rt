@@ -12,12 +12,12 @@ fn are_digits(word: &[u8]) -> bool
     word.iter().all(|b| b.is_ascii_digit())
 }
 
-// 1 to 18 digits and nothing else.
+// 1 to 18 digits and nothing else. The length is tested first: a long word is refused unread.
 #[tactic(auto, using(crate::proofs::WordLaws::same_digits), unfolding(crate::specs::WordValue::is_natural))]
 fn is_natural(word: &[u8]) -> bool
     ensures { result ≡ is_natural word.now }
 {
-    are_digits(word) && (1..=18).contains(&word.len())
+    (1..=18).contains(&word.len()) && are_digits(word)
 }
 
 fn value_of(word: &[u8]) -> u64
