@@ -1,14 +1,14 @@
 -- What is known of a group that is not refused, and what each step of taking it needs. Assumes nothing.
 use mathlib.Core.Bool.{Bool, true, false}
-use mathlib.Core.List.{List, ◌++◌, append_assoc}
+use mathlib.Core.List.{List}
 use mathlib.Core.Path.{◌≡◌, refl, sym, ap, ◌∙◌}
 use Prim.Native.Nat.{ℕ, ◌+◌, ◌*◌, ◌≤◌}
 use native.Mathlib.Nat.{add-mul, mul-le-mul, mul-le-mul_right}
 use native.Mathlib.Omega.{arith}
 use borrow.Author.Tests.{eqb-true, eqb-false, not-true}
-use borrow.Rule.Slice.PartMut.{put_mid}
-use lib.ListN.{length, take, drop}
-use lib.Seq.{sets, sets-eq, drop-drop}
+use borrow.Rule.Slice.PartMut.{mid_of, put_mid}
+use lib.ListN.{length, drop, length-drop}
+use lib.Seq.{sets, length-take-le}
 use Rattle.arithmetic.specs.Places.{all_of}
 use Rattle.arithmetic.proofs.Test.{and_true}
 use Rattle.refusal.proofs.RangeBounds.{range_bounds}
@@ -26,10 +26,10 @@ use Rattle.scan.specs.Rays.{regular_rays}
 use Rattle.scan.specs.Scan.{gates_of}
 use Rattle.scan.specs.ScanRefusal.{centres_accepted, quality_accepted}
 use Rattle.scan.proofs.AcceptedScan.{accepted_numbers}
-use Rattle.scan.proofs.RayLaws.{gates_length, regular_gates}
 use Rattle.scan_ledger.specs.LedgerRoom.{RaysSpan, surveyed_gates}
 use Rattle.scan_ledger.specs.ScanLedger.{gates_told}
 use Rattle.scan_ledger.proofs.AcceptedLedger.{centres_most, accepted_gates}
+use Rattle.scan_ledger.proofs.RaysWritten.{put_stored, told_length, told_whole}
 use Rattle.ray_sums.specs.RaySums.{AddsAll, RayRanges}
 use Rattle.group_sums.specs.GroupRoom.{GroupAddable}
 use Rattle.sweep_checks.specs.RayGroup.{RayGroup}
@@ -92,11 +92,6 @@ accepted_group head closed taken group lists e =
 
 -- ---- what each step needs
 
--- a part of a list, written over
-put_stored : (start places : ℕ) (list written : List ℕ) → length written ≡ places → start + places ≤ length list → put_mid start places list written ≡ sets list start written
-put_stored start places list written e h =
-    ap (λ (l : List ℕ). take start list ++ (written ++ l)) (drop-drop places start list ∙ ap (λ (n : ℕ). drop (start + n) list) (sym e)) ∙ sym (append_assoc (take start list) written _) ∙ sym (sets-eq written list start (omega arith))
-
 abbrev pub centres_in : ScanHead → Centres
 centres_in head = record { first = head.first; spacing = head.spacing }
 
@@ -132,8 +127,8 @@ module _ {head : ScanHead} {closed : Bool} {taken : ℕ} {group : RayGroup} {lis
   pub rays_span : {ledger marks : List ℕ} → length ledger ≡ length group.azimuths * head.gates → length marks ≡ length group.azimuths * head.gates → RaysSpan head.gates (centres_in head) group.azimuths ledger marks
   rays_span e m = record {
     gates_most = good.gates_most;
-    ledger_length = e;
-    marks_length = m;
+    ledger_most = omega (arith, e);
+    marks_most = omega (arith, m);
     ranges = λ g h. centres_most head.gates head.first head.spacing g good.centres h;
   }
 
@@ -141,12 +136,16 @@ module _ {head : ScanHead} {closed : Bool} {taken : ℕ} {group : RayGroup} {lis
   told_is told survey gates s g = rw (s, g) (accepted_gates head good.centres good.site good.grid told group.azimuths good.azimuths_good)
 
   -- what is told of the rays' gates, written there
-  pub told_stored : (told : PlaceAnswer → ℕ) (survey : SurveyTerms) (lent : List ℕ) {places : ℕ} {written : List ℕ} → survey ≡ survey_of head.site head.grid → length lent ≡ gates_of head → places ≡ length group.azimuths * head.gates → written ≡ surveyed_gates told survey (centres_in head) (regular_rays head.gates group.azimuths) → put_mid (taken * head.gates) places lent written ≡ sets lent (taken * head.gates) (gates_told told head (regular_rays head.gates group.azimuths))
+  pub told_stored : (told : PlaceAnswer → ℕ) (survey : SurveyTerms) (lent : List ℕ) {places : ℕ} {written : List ℕ} → survey ≡ survey_of head.site head.grid → length lent ≡ gates_of head → places ≡ length group.azimuths * head.gates → written ≡ sets (mid_of (taken * head.gates) places lent) 0 (surveyed_gates told survey (centres_in head) (regular_rays head.gates group.azimuths)) → put_mid (taken * head.gates) places lent written ≡ sets lent (taken * head.gates) (gates_told told head (regular_rays head.gates group.azimuths))
   unfolding gates_told
-  told_stored told survey lent s all p w =
-      let is = w ∙ told_is told survey head.gates s refl in
-      let size = ap (length {A = ℕ}) is ∙ gates_length _ head.first head.spacing _ ∙ regular_gates head.gates group.azimuths in
-      put_stored (taken * head.gates) _ lent _ (size ∙ sym p) (omega (arith, behind, all, p)) ∙ ap (sets lent (taken * head.gates)) is
+  told_stored told survey lent {places} s all p w =
+      let start = taken * head.gates in
+      let there : start + places ≤ length lent = omega (arith, behind, all, p) in
+      let same = told_is told survey head.gates s refl in
+      let part : length (mid_of start places lent) ≡ places = length-take-le places (drop start lent) (omega (arith, length-drop start lent)) in
+      let is = w ∙ told_whole told survey head.gates (centres_in head) group.azimuths (mid_of start places lent) (part ∙ p) ∙ same in
+      let size = ap (length {A = ℕ}) (is ∙ sym same) ∙ told_length told survey head.gates (centres_in head) group.azimuths ∙ sym p in
+      put_stored start places lent _ size there ∙ ap (sets lent start) is
 
   -- ---- the answer
 

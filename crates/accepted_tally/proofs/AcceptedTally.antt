@@ -4,9 +4,11 @@ use mathlib.Core.List.{List}
 use mathlib.Core.Path.{◌≡◌, refl, sym, ap, ◌∙◌}
 use Prim.Native.Nat.{ℕ, ◌*◌, ◌≤◌}
 use native.Mathlib.Nat.{mul-le-mul}
+use native.Mathlib.Omega.{arith}
 use denote.Triple.Both.{Both}
 use borrow.Author.Tests.{leb-true}
 use lib.ListN.{length, get_or, length-replicate}
+use lib.Seq.{sets}
 use Rattle.arithmetic.proofs.Places.{all_at}
 use Rattle.placement.specs.declared.centres.Centres.{Centres}
 use Rattle.placement.specs.Gate.{PlaceAnswer, entry_of, mark_of}
@@ -27,6 +29,7 @@ use Rattle.scan.proofs.RayLaws.{gates_length, regular_gates}
 use Rattle.scan_ledger.specs.LedgerRoom.{RaysSpan, surveyed_gates}
 use Rattle.scan_ledger.specs.ScanLedger.{gates_told}
 use Rattle.scan_ledger.proofs.AcceptedLedger.{centres_most, accepted_gates}
+use Rattle.scan_ledger.proofs.RaysWritten.{told_whole}
 use Rattle.accepted_tally.specs.TalliedLists.{tallied_lists}
 
 module _ {scan : Scan} {lists : Lists} (good : AcceptedScan scan lists) where
@@ -41,8 +44,8 @@ module _ {scan : Scan} {lists : Lists} (good : AcceptedScan scan lists) where
   pub rays_span : RaysSpan scan.head.gates centres scan.azimuths lists.ledger lists.marks
   rays_span = record {
     gates_most = good.gates_most;
-    ledger_length = as_many good.lengths.ledger_length;
-    marks_length = as_many good.lengths.marks_length;
+    ledger_most = omega (arith, as_many good.lengths.ledger_length);
+    marks_most = omega (arith, as_many good.lengths.marks_length);
     ranges = λ g h. centres_most scan.head.gates scan.head.first scan.head.spacing g good.centres h;
   }
 
@@ -63,6 +66,13 @@ module _ {scan : Scan} {lists : Lists} (good : AcceptedScan scan lists) where
   pub marks_are : surveyed_gates mark_of (survey_of scan.head.site scan.head.grid) centres (regular_rays scan.head.gates scan.azimuths) ≡ (tallied_lists scan).marks
   unfolding tallied_lists
   marks_are = told_is mark_of
+
+  -- stored over the whole of what is lent
+  pub ledger_stored : sets lists.ledger 0 (surveyed_gates entry_of (survey_of scan.head.site scan.head.grid) centres (regular_rays scan.head.gates scan.azimuths)) ≡ (tallied_lists scan).ledger
+  ledger_stored = told_whole entry_of _ _ _ _ lists.ledger (as_many good.lengths.ledger_length) ∙ ledger_is
+
+  pub marks_stored : sets lists.marks 0 (surveyed_gates mark_of (survey_of scan.head.site scan.head.grid) centres (regular_rays scan.head.gates scan.azimuths)) ≡ (tallied_lists scan).marks
+  marks_stored = told_whole mark_of _ _ _ _ lists.marks (as_many good.lengths.marks_length) ∙ marks_are
 
   gates_most : gates_of scan.head ≤ 720000
   unfolding gates_of

@@ -1,5 +1,5 @@
 -- What a site and a grid give once for all of their gates, and a gate's placement from it. Assumes nothing.
-use Rattle.std.specs.Prelude.{List, ◌≡◌, Ok, ℕ, ◌≤◌, ◌<◌, length}
+use Rattle.std.specs.Prelude.{List, Ok, ℕ, ◌≤◌, ◌<◌, length}
 use Rattle.arithmetic.specs.Places.{table}
 use Rattle.placement.specs.declared.centres.Centres.{Centres}
 use Rattle.placement.specs.declared.gate.Placement.{Placement}
@@ -34,8 +34,8 @@ surveyed_gate told survey azimuth range = told (Ok (surveyed survey (ray_terms a
 unfoldable pub surveyed_ray : (PlaceAnswer → ℕ) → SurveyTerms → Centres → ℕ → ℕ → List ℕ
 surveyed_ray told survey centres azimuth gates = table (λ g. surveyed_gate told survey azimuth (centre_of centres g)) gates
 
--- ledger and marks each have a place for each of a ray's gates, none beyond the greatest range
+-- the ledger has as many places as the ray has gates, the marks at least as many, and no gate lies beyond the greatest range
 pub record RaySpan (centres : Centres) (ledger marks : List ℕ) : Type 0 where
-  pub same_length : length marks ≡ length ledger
+  pub marks_most : length ledger ≤ length marks
   pub gates_most : length ledger ≤ 1000
   pub ranges : (g : ℕ) → g < length ledger → centre_of centres g ≤ 46000000

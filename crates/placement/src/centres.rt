@@ -10,6 +10,7 @@ pub struct Centres {
 }
 
 impl Centres {
+    // For our own crates: they have tested the ranges.
     pub fn centre(self, gate: u32) -> u32
         requires { centre_of self gate < 2 ^ 32 }
         ensures { result ≡ centre_of self gate }

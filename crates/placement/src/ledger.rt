@@ -1,5 +1,6 @@
 // The ledger of one ray: for each of its gates, measured or not, the cell that it goes to, and its mark.
 ghost use Rattle.std.specs.Prelude.{◌≡◌, length};
+ghost use Rattle.std.proofs.lemmas.List.Edits.{sets};
 ghost use Rattle.placement.specs.Gate.{entry_of, mark_of};
 ghost use Rattle.placement.specs.Survey.{RaySpan, surveyed_ray};
 
@@ -11,7 +12,7 @@ use projection::ray_terms;
 // Kept: document 01 and the C interface name 4,294,967,295 for a gate outside.
 const OUTSIDE: u32 = 4294967295;
 
-// Writes the entries and marks of a ray's gates. For our own crates: they have tested site, grid and ranges.
+// Writes the entries and marks of a ray's gates; marks behind these stay. For our own crates: they have tested site, grid and ranges.
 #[tactic(auto, using(arithmetic::proofs::Places::written_none, projection::proofs::GateTerms::ray_limits))]
 pub fn ray_ledger(
     survey: Survey,
@@ -22,7 +23,7 @@ pub fn ray_ledger(
 )
     requires { RaySpan centres ledger.old marks.old }
     ensures entries { ledger.new ≡ surveyed_ray entry_of survey centres azimuth (length ledger.old) }
-    ensures marks { marks.new ≡ surveyed_ray mark_of survey centres azimuth (length marks.old) }
+    ensures marks { marks.new ≡ sets marks.old 0 (surveyed_ray mark_of survey centres azimuth (length ledger.old)) }
 {
     let ray = ray_terms(azimuth);
     for (gate, entry) in ledger.iter_mut().enumerate() {

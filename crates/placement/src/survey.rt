@@ -8,12 +8,12 @@ use limits::{Grid, Site};
 use projection::{SiteTerms, site_terms};
 use std::marker::Model;
 
-// Of an accepted site and an accepted grid: its numbers lie within their limits.
+// Its numbers lie within the limits that accepted sites and grids keep to. Who builds one proves it, in other crates too.
 #[derive(Clone, Copy)]
 pub struct Survey {
-    pub(crate) terms: SiteTerms,
-    pub(crate) sphere: Sphere,
-    pub(crate) window: Window,
+    pub terms: SiteTerms,
+    pub sphere: Sphere,
+    pub window: Window,
 }
 
 impl Model for Survey {

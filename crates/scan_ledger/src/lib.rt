@@ -2,13 +2,14 @@
 #![tactic(auto)]
 
 ghost use Rattle.std.specs.Prelude.{◌≡◌};
+ghost use Rattle.std.proofs.lemmas.List.Edits.{sets};
 ghost use Rattle.placement.specs.Gate.{entry_of, mark_of};
 ghost use Rattle.scan.specs.Rays.{regular_rays};
 ghost use Rattle.scan_ledger.specs.LedgerRoom.{RaysSpan, surveyed_gates};
 
 use placement::{Centres, Survey, ray_ledger};
 
-// Each ray has `gates` gates. For our own crates: they have tested the scan.
+// Each ray has `gates` gates; what is lent behind these stays. For our own crates: they have tested the scan.
 pub fn scan_ledger(
     survey: Survey,
     gates: usize,
@@ -18,8 +19,8 @@ pub fn scan_ledger(
     marks: &mut [u8],
 )
     requires { RaysSpan gates centres azimuths.now ledger.old marks.old }
-    ensures entries { ledger.new ≡ surveyed_gates entry_of survey centres (regular_rays gates azimuths.now) }
-    ensures marks { marks.new ≡ surveyed_gates mark_of survey centres (regular_rays gates azimuths.now) }
+    ensures entries { ledger.new ≡ sets ledger.old 0 (surveyed_gates entry_of survey centres (regular_rays gates azimuths.now)) }
+    ensures marks { marks.new ≡ sets marks.old 0 (surveyed_gates mark_of survey centres (regular_rays gates azimuths.now)) }
 {
     for (ray, azimuth) in azimuths.iter().enumerate() {
         let start = ray * gates;

@@ -20,7 +20,13 @@ state_number head closed taken more =
 unfoldable pub open_number : ScanHead → Sums → ℕ
 open_number head sums = scan_number head (sums_accepted head sums) true true
 
--- "19, then 17, then 1 to 5 for the numbers in the state, precede the rest": 6, 7 and 8
+-- "19, then 17, then 1 to 5 for the numbers in the state, precede the rest": 6, 7 and 8, where the lists are told by what is accepted of them
+unfoldable pub rays_number : ScanHead → Bool → ℕ → ℕ → Bool → Bool → Bool → ℕ
+rays_number head closed taken more lengths azimuths qualities =
+    state_number head closed taken more
+    then scan_number head lengths azimuths qualities
+
+-- the same of the lists
 unfoldable pub take_number : ScanHead → Bool → ℕ → RayGroup → Lists → Bool → Bool → ℕ
 take_number head closed taken group lists azimuths qualities =
     state_number head closed taken (length group.azimuths)

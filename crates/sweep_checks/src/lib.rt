@@ -4,4 +4,4 @@
 mod lengths;
 mod refusal_numbers;
 
-pub use refusal_numbers::{check_close, check_open, check_take};
+pub use refusal_numbers::{check_close, check_group, check_open, check_rays, check_take};

@@ -7,7 +7,7 @@ ghost use Rattle.tally.specs.LentSums.{sums_in, sums_read, cells_in};
 ghost use Rattle.scan.specs.LentLists.{lists_in};
 ghost use Rattle.scan.specs.ScanRefusal.{quality_accepted};
 ghost use Rattle.sweep_checks.specs.RayGroup.{group_of};
-ghost use Rattle.sweep_checks.specs.SweepNumbers.{state_number, open_number, take_number, close_number};
+ghost use Rattle.sweep_checks.specs.SweepNumbers.{state_number, open_number, rays_number, take_number, close_number};
 
 use crate::lengths::{cells_accepted, sums_accepted, taken_accepted};
 use refusal::Refusal;
@@ -55,6 +55,38 @@ pub fn check_take(
         azimuths_accepted(rays.azimuths),
         qualities_accepted(rays.qualities),
     )
+}
+
+// The same for a caller that has tested azimuths and qualities itself, whatever it tells of them.
+pub fn check_group(
+    head: ScanHead,
+    closed: bool,
+    taken: u32,
+    rays: Rays<'_>,
+    lists: &ListsMut<'_>,
+    azimuths: bool,
+    qualities: bool,
+) -> Result<(), Refusal>
+    ensures { refusal_in result ≡ take_number head closed taken (group_of rays.entry) (lists_in lists.now) azimuths qualities }
+{
+    check_state(head, closed, taken, rays.azimuths.len())?;
+    check_scan(head, taken_accepted(head, rays, lists), azimuths, qualities)
+}
+
+// The same for a caller that has tested the lengths too: so many rays are to be taken.
+pub fn check_rays(
+    head: ScanHead,
+    closed: bool,
+    taken: u32,
+    more: usize,
+    lengths: bool,
+    azimuths: bool,
+    qualities: bool,
+) -> Result<(), Refusal>
+    ensures { refusal_in result ≡ rays_number head closed taken more lengths azimuths qualities }
+{
+    check_state(head, closed, taken, more)?;
+    check_scan(head, lengths, azimuths, qualities)
 }
 
 // 19, 17, 1 to 5, 18 for closing early, then 6.

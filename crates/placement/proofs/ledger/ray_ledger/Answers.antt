@@ -1,6 +1,6 @@
 -- `placement::ledger::ray_ledger` meets its contract. The loop's invariant: in ledger and marks the places up to the gate hold what their gates
 -- tell, and the others what they held. Assumes nothing.
-use mathlib.Core.Path.{◌≡◌, refl, sym, ap, ◌∙◌}
+use mathlib.Core.Path.{◌≡◌, refl, ap, ◌∙◌}
 use native.Mathlib.Omega.{arith}
 use lib.ListN.{length}
 use Rattle.std.specs.Prelude.{Option, Some, None, ℕ, unwrap_or}
@@ -11,6 +11,7 @@ use Rattle.placement.specs.Centres.{centre_of}
 use Rattle.placement.specs.Gate.{entry_of, mark_of, outside_entry, mark_number}
 use Rattle.placement.specs.Survey.{surveyed, surveyed_gate, surveyed_ray}
 use Rattle.placement.proofs.MarkByte.{mark_byte}
+use Rattle.placement.proofs.MarksStored.{written_start}
 use Rattle.placement.proofs.ledger.ray_ledger.Goals as goal
 
 -- what the entry of a gate is by its cell
@@ -44,5 +45,4 @@ unfolding surveyed_ray
 returns c =
     let all : c.loop-gate.gate ≡ length c.args.ledger.now = omega arith in
     let l = rw all at c.loop-gate.invariant in
-    let same = c.requires.same_length in
-    record { entries = written_all _ _ _ _ l.entries refl; marks = rw same (written_all _ _ _ _ l.marks (sym same)) }
+    record { entries = written_all _ _ _ _ l.entries refl; marks = written_start _ _ _ _ l.marks c.requires.marks_most }
