@@ -3,7 +3,7 @@ use mathlib.Core.Path.{◌≡◌, refl, sym, ap, ap₂, ◌∙◌, subst}
 use mathlib.Core.Bool.{Bool, true, false, cond}
 use mathlib.Core.List.{List, [], ◌∷◌, ◌++◌, append_assoc, append-nil}
 use Prim.Native.Nat.{ℕ, zero, suc, ◌+◌, ◌-◌, ◌*◌, ◌/◌, ◌%◌, ◌^◌, ◌<◌, ◌≤◌}
-use native.Mathlib.Nat.{zero-add, add-zero, pow-suc, div-lt_iff_lt-mul, div-add-mod', div-mul-le_self}
+use native.Mathlib.Nat.{zero-add, add-zero, pow-suc, mod-lt, div-lt_iff_lt-mul, div-add-mod', div-mul-le_self}
 use native.Mathlib.Numerals.{add-one}
 use native.Mathlib.Omega.{arith}
 use borrow.Author.Tests.{lt-ltb, le-ltb}
@@ -35,6 +35,23 @@ all_bytes_length width (n ∷ ns) =
 pub numbers_length : (width : ℕ) (bytes : List ℕ) (at count : ℕ) → length (numbers_at width bytes at count) ≡ count
 unfolding numbers_at
 numbers_length width bytes at count = table_length (λ k. number_at width bytes (at + width * k)) count
+
+-- ---- each byte is less than 256
+
+pub small_append : (m : ℕ) (xs ys : List ℕ) → ((k : ℕ) → get_or xs k 0 < m) → ((k : ℕ) → get_or ys k 0 < m) → (k : ℕ) → get_or (xs ++ ys) k 0 < m
+small_append m [] ys p q k = q k
+small_append m (x ∷ xs) ys p q zero = p zero
+small_append m (x ∷ xs) ys p q (suc k) = small_append m xs ys (λ j. p (suc j)) q k
+
+small_one : (n k : ℕ) → get_or (n % 256 ∷ []) k 0 < 256
+small_one n zero = mod-lt n (omega arith)
+small_one n (suc k) = omega arith
+
+pub bytes_small : (width n k : ℕ) → get_or (bytes_of width n) k 0 < 256
+unfolding bytes_of
+bytes_small zero n k = omega arith
+bytes_small (suc width) n k =
+    small_append 256 (bytes_of width (n / 256)) (n % 256 ∷ []) (bytes_small width (n / 256)) (small_one n) k
 
 -- ---- one number
 

@@ -4,14 +4,14 @@ use mathlib.Core.List.{List, [], ◌∷◌}
 use Rattle.std.specs.List.{list_all, range_with_len}
 use Rattle.arithmetic.specs.Places.{table}
 use mathlib.Core.Path.{sym, ap₂, ◌≡◌, refl, ap, ◌∙◌}
-use Prim.Native.Nat.{ℕ, zero, suc, ◌+◌, ◌-◌, ◌*◌}
+use Prim.Native.Nat.{ℕ, zero, suc, ◌+◌, ◌-◌, ◌*◌, ◌/◌, ◌<◌, ◌≤◌}
 use native.Mathlib.Nat.{zero-add, add-zero}
 use native.Mathlib.Omega.{arith}
 use lib.Dec.{ltb}
 use lib.IntN.{pos, negsuc}
 use lib.ListN.{get_or}
-use mir.Syntax.{w16, w32}
-use mir.Val.{to_z, sel}
+use mir.Syntax.{w16, w32, w64}
+use mir.Val.{SFits, to_z, sel}
 use Rattle.std.specs.Int.{from_be_bytes}
 use Rattle.arithmetic.specs.Places.{all_of}
 use Rattle.big_endian.specs.BigEndian.{number_at, numbers_at, signed_of}
@@ -55,3 +55,13 @@ signed_four n = go (ltb n 2147483648)
     go : (t : Bool) → cond t (pos n) (negsuc (4294967296 - suc n)) ≡ sel t (pos n) (negsuc (4294967296 - suc n))
     go true = refl
     go false = refl
+
+-- ---- a number so read fits 64 bits with a sign
+
+pub signed_fits : (span n : ℕ) → span ≤ 4294967296 → n < span → SFits w64 (signed_of span n)
+unfolding signed_of
+signed_fits span n h i = go (ltb n (span / 2))
+  where
+    go : (t : Bool) → SFits w64 (cond t (pos n) (negsuc (span - suc n)))
+    go true = record { sfits = omega arith }
+    go false = record { sfits = omega arith }

@@ -1,1 +1,2 @@
 pub mod HeadInFront
+pub mod SweepLeft

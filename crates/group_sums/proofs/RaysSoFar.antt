@@ -14,10 +14,11 @@ use Rattle.tally.specs.Width.{most32, most64, fit_widths, Fitting}
 use Rattle.tally.proofs.WidthLaws.{within_true, all_fit}
 use Rattle.tally.proofs.TallySplit.{added_none}
 use Rattle.take_out.proofs.TakenOut.{sums_same}
-use Rattle.ray_sums.specs.RaySums.{AddsAll}
+use Rattle.ray_sums.specs.RaySums.{RayAddable, AddsAll}
+use Rattle.group_sums.specs.GroupRoom.{GroupAddable}
 use Rattle.group_sums.proofs.GroupFits.{more_fail}
 use Rattle.scan_ledger.proofs.RaysWritten.{ray_end}
-use Rattle.group_sums.proofs.RayOfGroup.{group_ledger, group_length, ray_of, part_of, counts_kept, quality_sums_kept, value_sums_kept, weighted_sums_kept, added_behind}
+use Rattle.group_sums.proofs.RayOfGroup.{group_ledger, group_length, ray_of, part_of, counts_kept, quality_sums_kept, value_sums_kept, weighted_sums_kept, added_behind, ray_room}
 
 -- the first n gates are added onto the sums that came in, and no count or sum passes its width
 pub record RaysSoFar (ledger values qualities : List ℕ) (n : ℕ) (sums₀ sums : Sums) : Type 0 where
@@ -57,6 +58,13 @@ module _ (survey : SurveyTerms) (centres : Centres) (gates : ℕ) (azimuths valu
   this_ray = ray_of survey centres gates azimuths ray
 
   module _ {sums₀ sums : Sums} (now : RaysSoFar (group_ledger survey centres gates azimuths) values qualities start sums₀ sums) where
+    pub added_room : {entries : List ℕ} → GroupAddable centres gates azimuths values qualities sums₀ → length entries ≡ gates → RayAddable centres entries (part_of start end values) (part_of start end qualities) sums
+    added_room room same =
+        ray_room survey centres gates azimuths values qualities ray start end inside starts ends room same
+        (now.same_quality_sums ∙ room.quality_sums_length ∙ sym now.same_counts)
+        (now.same_value_sums ∙ room.value_sums_length ∙ sym now.same_counts)
+        (now.same_weighted_sums ∙ room.weighted_sums_length ∙ sym now.same_counts)
+
     with_ray : added_sums this_ray (part_of start end values) (part_of start end qualities) sums ≡ added_first (group_ledger survey centres gates azimuths) values qualities end sums₀
     with_ray = ap (added_sums this_ray (part_of start end values) (part_of start end qualities)) now.so_far ∙ added_behind survey centres gates azimuths values qualities ray start end inside starts ends sums₀ ∙ rw ends
 

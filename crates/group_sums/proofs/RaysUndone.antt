@@ -11,7 +11,7 @@ use Rattle.tally.proofs.TallySplit.{added_none}
 use Rattle.take_out.specs.TakeOutRoom.{AddedBefore}
 use Rattle.take_out.proofs.TakenOut.{sums_same}
 use Rattle.ray_sums.specs.RaySums.{RayAddable}
-use Rattle.group_sums.specs.GroupRoom.{GroupAddable}
+use Rattle.group_sums.specs.GroupRoom.{GroupAddable, RaysAdded}
 use Rattle.group_sums.proofs.RayOfGroup.{group_ledger, ray_of, part_of, counts_kept, quality_sums_kept, value_sums_kept, weighted_sums_kept, this_length, added_behind, ray_room}
 
 -- some sums, with the first m gates added, are those that came in; with the first n gates added, they are those that are left
@@ -25,6 +25,9 @@ pub record RaysUndone (ledger values qualities : List ℕ) (m n : ℕ) (sums₀ 
   pub same_weighted_sums : length sums.weighted_sums ≡ length sums₀.weighted_sums
 
 module _ {ledger values qualities : List ℕ} where
+  pub none_undone : {n : ℕ} {sums : Sums} → RaysAdded ledger values qualities n sums → RaysUndone ledger values qualities n n sums sums
+  none_undone a = record { before = a.before; added_then = a.added_then; left = a.added_then; same_counts = refl; same_quality_sums = refl; same_value_sums = refl; same_weighted_sums = refl }
+
   pub all_undone : {m n : ℕ} {sums₀ sums : Sums} → RaysUndone ledger values qualities m n sums₀ sums → n ≡ 0 → sums₀ ≡ added_first ledger values qualities m sums
   all_undone {m} {n} {sums₀} {sums} u e =
       let same : sums ≡ u.before = u.left ∙ rw e (added_none ledger values qualities u.before) in

@@ -1,5 +1,5 @@
 -- Document 02, T-05, refusal 6: what lists that are all equally long have, and the number of those that are not. Assumes nothing.
-use mathlib.Core.Bool.{true}
+use mathlib.Core.Bool.{true, false}
 use mathlib.Core.Path.{◌≡◌}
 use borrow.Author.Tests.{eqb-true, eq-eqb}
 use Rattle.arithmetic.proofs.Test.{and_true}
@@ -32,3 +32,7 @@ module _ (sums : Sums) (cells : Cells) where
   pub equal_accepted : equally_long sums cells ≡ true → publish_refusal sums cells ≡ 0
   unfolding publish_refusal first_refusal
   equal_accepted e = rw e
+
+  pub unequal_refused : equally_long sums cells ≡ false → publish_refusal sums cells ≡ 6
+  unfolding publish_refusal first_refusal
+  unequal_refused e = rw e

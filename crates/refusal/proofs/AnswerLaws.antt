@@ -2,7 +2,7 @@
 use mathlib.Core.Path.{◌≡◌, refl}
 use Prim.Native.Nat.{ℕ, zero, suc}
 use native.Mathlib.Omega.{arith}
-use Rattle.refusal.specs.Answer.{gives, refuses, answered, number_in, afterwards}
+use Rattle.refusal.specs.Answer.{gives, refuses, answered, number_in, left_by, afterwards}
 
 -- ---- from a refusal number to the answer
 
@@ -48,3 +48,8 @@ pub number_in_lem : {A : Type 0} (number : ℕ) (values : A) → number_in (answ
 unfolding number_in answered
 number_in_lem zero values = refl
 number_in_lem (suc number) values = refl
+
+pub left_by_lem : {A : Type 0} (number : ℕ) (before values : A) → left_by before (answered number values) ≡ afterwards number before values
+unfolding left_by answered afterwards
+left_by_lem zero before values = refl
+left_by_lem (suc number) before values = refl

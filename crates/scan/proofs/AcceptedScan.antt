@@ -1,6 +1,6 @@
 -- What is accepted of a scan, as bounds of its numbers; and a scan that is not refused is accepted. Assumes nothing.
-use mathlib.Core.Path.{◌≡◌, ap, ◌∙◌}
-use mathlib.Core.Bool.{Bool, true, ◌&&◌}
+use mathlib.Core.Path.{◌≡◌, refl, ap, ◌∙◌}
+use mathlib.Core.Bool.{Bool, true, false, ◌&&◌}
 use Prim.Native.Nat.{ℕ, ◌≤◌}
 use native.Mathlib.Nat.{mul-le-mul}
 use native.Mathlib.Omega.{arith}
@@ -61,6 +61,17 @@ accepted_lists head azimuths values qualities e =
       qualities_length = last.1;
     }
 
+pub refused_lists : (head : ScanHead) (azimuths values qualities : ℕ) → (AcceptedLists head azimuths values qualities → ⊥) → false ≡ lists_accepted head azimuths values qualities
+refused_lists head azimuths values qualities wrong = go (lists_accepted head azimuths values qualities) refl
+  where
+    go : (t : Bool) → lists_accepted head azimuths values qualities ≡ t → false ≡ t
+    go true e = absurd (wrong (accepted_lists head azimuths values qualities e))
+    go false e = refl
+
+pub by_last_list : (head : ScanHead) (azimuths values qualities : ℕ) → azimuths ≡ head.rays → values ≡ gates_of head → eqb qualities (gates_of head) ≡ lists_accepted head azimuths values qualities
+unfolding lists_accepted
+by_last_list head azimuths values qualities a v = simp (eq-eqb _ _ a, eq-eqb _ _ v)
+
 pub lists_pass : (head : ScanHead) (azimuths values qualities : ℕ) → AcceptedLists head azimuths values qualities → lists_accepted head azimuths values qualities ≡ true
 unfolding lists_accepted
 lists_pass head azimuths values qualities known =
@@ -99,6 +110,23 @@ accepted_lengths scan lists e =
       value_sums_length = value-sums.1;
       weighted_sums_length = weighted-sums.1;
     }
+
+pub refused_lengths : (scan : Scan) (lists : Lists) → (AcceptedLengths scan lists → ⊥) → false ≡ lists_exact scan lists
+refused_lengths scan lists wrong = go (lists_exact scan lists) refl
+  where
+    go : (t : Bool) → lists_exact scan lists ≡ t → false ≡ t
+    go true e = absurd (wrong (accepted_lengths scan lists e))
+    go false e = refl
+
+pub refused_by_lists : (scan : Scan) (lists : Lists) → given_exact scan ≡ false → false ≡ lists_exact scan lists
+unfolding lists_exact
+refused_by_lists scan lists e = simp e
+
+-- where the other lengths are right, the last one decides
+pub by_last_length : (scan : Scan) (lists : Lists) → given_exact scan ≡ true → length lists.ledger ≡ gates_of scan.head → length lists.marks ≡ gates_of scan.head → length lists.sums.counts ≡ cells_of scan.head → length lists.sums.quality_sums ≡ cells_of scan.head → length lists.sums.value_sums ≡ cells_of scan.head → eqb (length lists.sums.weighted_sums) (cells_of scan.head) ≡ lists_exact scan lists
+unfolding lists_exact
+by_last_length scan lists own ledger marks counts quality-sums value-sums =
+    simp (own, eq-eqb _ _ ledger, eq-eqb _ _ marks, eq-eqb _ _ counts, eq-eqb _ _ quality-sums, eq-eqb _ _ value-sums)
 
 pub lengths_exact : (scan : Scan) (lists : Lists) → AcceptedLengths scan lists → lists_exact scan lists ≡ true
 unfolding lists_exact given_exact

@@ -26,6 +26,14 @@ echo_most value h m = go (eqb value 65534) refl
     go true e = zero-le
     go false e = omega (arith, eqb-false value 65534 e, eqb-false value 65535 (not-true (eqb value 65535) m))
 
+pub echo_within : (value : ℕ) → echo_of value ≤ value
+unfolding echo_of
+echo_within value = go (eqb value 65534)
+  where
+    go : (t : Bool) → cond t 0 value ≤ value
+    go true = zero-le
+    go false = le_refl value
+
 weighted_echo_most : (value quality : ℕ) → value ≤ 65535 → quality ≤ 100 → is_measured value ≡ true → weighted_echo value quality ≤ 65533 * 100
 unfolding weighted_echo
 weighted_echo_most value quality h i m = mul-le-mul (echo_most value h m) i
