@@ -1,4 +1,5 @@
-// A number that stands in a fixed count of bytes, and lists of them.
+// A number that stands in a fixed count of bytes, and lists of them. These functions are for our own crates: the places lie in a record or just past
+// it, and they have made sure of room in the buffer.
 ghost use Rattle.std.specs.Prelude.{◌≡◌, ℕ, ◌<◌, ◌≤◌, ◌+◌, ◌*◌, ◌^◌, map, length};
 ghost use Rattle.std.proofs.lemmas.List.Edits.{sets};
 ghost use Rattle.std.proofs.Common.{rules};
